@@ -1,0 +1,3 @@
+// The components of a form model: their kinds, values and parameters.
+pub mod model_component;
+pub mod parameter;

@@ -1,0 +1,20 @@
+-- What the record of a tag means. Definitions only.
+use mathlib.Core.Path.{_≡_}
+use mathlib.Core.Bool.{Bool, true}
+use lib.Dec.{leb}
+use lib.ListN.{take}
+use Rattle.tag.specs.declared.Tag.{Tag as Label}
+use Rattle.tag.specs.Tags.{Tag}
+
+-- a tag is the first `len` of its bytes
+unfoldable pub bytesOf : Label → Tag
+bytesOf t = take (t .len) (t .bytes)
+
+-- the length that the record names is within its size
+unfoldable pub tagFits : Label → Bool
+tagFits t = leb (t .len) 32
+
+-- the record holds these bytes
+pub record Labelled (t : Tag) (r : Label) : Type 0 where
+  pub bytes : bytesOf r ≡ t
+  pub short : tagFits r ≡ true
