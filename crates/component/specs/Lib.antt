@@ -1,2 +1,3 @@
 pub mod Value
+pub mod Kind
 pub mod Parameter

@@ -1,3 +1,4 @@
 // The components of a form model: their kinds, values and parameters.
+pub mod kind;
 pub mod model_component;
 pub mod parameter;
