@@ -48,7 +48,12 @@ pub fn input_count(c: Component) -> usize
         Component::Divide => 2,
         Component::Lerp(_) => 2,
         Component::VariableLerp => 3,
-        Component::Remap { from_min: _, from_max: _, to_min: _, to_max: _ } => 1,
+        Component::Remap {
+            from_min: _,
+            from_max: _,
+            to_min: _,
+            to_max: _,
+        } => 1,
         Component::BooleanUnion => 2,
         Component::BooleanIntersection => 2,
         Component::BooleanDifference => 2,
