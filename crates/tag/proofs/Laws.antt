@@ -1,0 +1,2 @@
+-- `Is`: two byte strings for which `is` holds are the same.
+pub mod Is

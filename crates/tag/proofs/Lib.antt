@@ -1,0 +1,2 @@
+-- What other crates and the functions' proofs cite.
+pub mod Laws
