@@ -1,0 +1,3 @@
+-- `Bool`: tests as facts. `Table`: what a table holds after a change.
+pub mod Bool
+pub mod Table
