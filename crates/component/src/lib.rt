@@ -1,3 +1,5 @@
 // The components of a form model: their kinds, values and parameters.
+pub mod math;
 pub mod model_component;
 pub mod parameter;
+pub mod shape;
