@@ -58,14 +58,17 @@ oneNumber = fin false 1 (pos 0)
 unfoldable pub clamped : Float → Float
 clamped f = cond (lt f zeroNumber) zeroNumber (cond (lt oneNumber f) oneNumber f)
 
-abbrev sizeOf : Float → Float
+abbrev pub epsilon : Float
+epsilon = fin false 1 (negsuc 51)
+
+abbrev pub sizeOf : Float → Float
 sizeOf d = cond (negative d) (neg d) d
 
 -- the two differ, rounded, by less than 2 ^ -52 in size; a NaN difference passes
 unfoldable pub tooNear : Float → Float → Bool
-tooNear a b = lt (sizeOf (sub binary64 a b)) (fin false 1 (negsuc 51))
+tooNear a b = lt (sizeOf (sub binary64 a b)) epsilon
 
-abbrev apart : Float → Float → Component → Setting
+abbrev pub apart : Float → Float → Component → Setting
 apart a b c = cond (tooNear a b) TooNear (Changed c)
 
 -- ---- the parameter set
