@@ -6,9 +6,11 @@ use lib.Ieee.{Float}
 use types.Run.{OneOf, miss}
 use denote.Enum.Declared.{tagOf}
 use Rattle.geometry.specs.declared.vec3f.Vec3.{Vec3}
-use Rattle.component.specs.Parameter.{Name, setValue, setVec3}
+use Rattle.component.specs.Parameter.{Name, setValue, setVec3, readParameter}
 use Rattle.component.specs.declared.model_component.Setting.{Setting}
 use Rattle.component.specs.declared.model_component.Setting.the-variants.{DoesNotFit}
+use Rattle.component.specs.declared.model_component.Reading.{Reading}
+use Rattle.component.specs.declared.model_component.Reading.the-variants.{Nothing}
 use Rattle.component.specs.declared.model_component.Component.{Component}
 use Rattle.component.specs.declared.model_component.Component.the-variants.{Constant, Sphere, Torus, Multiply, Add, Subtract, Divide, Lerp, VariableLerp, Remap, BooleanUnion, BooleanIntersection, BooleanDifference, Offset, Thickness}
 use Rattle.component.proofs.model_component.Component.{the-type}
@@ -21,23 +23,32 @@ plain = 3 ∷ 4 ∷ 5 ∷ 6 ∷ 8 ∷ 10 ∷ 11 ∷ 12 ∷ []
 abbrev pub uncentred : List ℕ
 uncentred = 0 ∷ 3 ∷ 4 ∷ 5 ∷ 6 ∷ 7 ∷ 8 ∷ 9 ∷ 10 ∷ 11 ∷ 12 ∷ 13 ∷ 14 ∷ []
 
+-- what holds of each of them holds of any
+module _ (P : Component → Type 0) (mul : P Multiply) (add : P Add) (sub : P Subtract) (div : P Divide) (lerp : P VariableLerp) (union : P BooleanUnion) (meet : P BooleanIntersection) (less : P BooleanDifference) where
+  pub plain-is : (c : Component) → OneOf plain (tagOf the-type c) → P c
+  plain-is (Constant x) h = absurd (miss plain 0 tt h)
+  plain-is (Sphere s) h = absurd (miss plain 1 tt h)
+  plain-is (Torus s) h = absurd (miss plain 2 tt h)
+  plain-is Multiply h = mul
+  plain-is Add h = add
+  plain-is Subtract h = sub
+  plain-is Divide h = div
+  plain-is (Lerp f) h = absurd (miss plain 7 tt h)
+  plain-is VariableLerp h = lerp
+  plain-is (Remap f g t u) h = absurd (miss plain 9 tt h)
+  plain-is BooleanUnion h = union
+  plain-is BooleanIntersection h = meet
+  plain-is BooleanDifference h = less
+  plain-is (Offset d) h = absurd (miss plain 13 tt h)
+  plain-is (Thickness t) h = absurd (miss plain 14 tt h)
+
 pub plain-value : (c : Component) (n : Name) (v : Float) → OneOf plain (tagOf the-type c) → DoesNotFit ≡ setValue c n v
 unfolding setValue
-plain-value (Constant x) n v h = absurd (miss plain 0 tt h)
-plain-value (Sphere s) n v h = absurd (miss plain 1 tt h)
-plain-value (Torus s) n v h = absurd (miss plain 2 tt h)
-plain-value Multiply n v h = refl
-plain-value Add n v h = refl
-plain-value Subtract n v h = refl
-plain-value Divide n v h = refl
-plain-value (Lerp f) n v h = absurd (miss plain 7 tt h)
-plain-value VariableLerp n v h = refl
-plain-value (Remap f g t u) n v h = absurd (miss plain 9 tt h)
-plain-value BooleanUnion n v h = refl
-plain-value BooleanIntersection n v h = refl
-plain-value BooleanDifference n v h = refl
-plain-value (Offset d) n v h = absurd (miss plain 13 tt h)
-plain-value (Thickness t) n v h = absurd (miss plain 14 tt h)
+plain-value c n v h = plain-is (λ k. DoesNotFit ≡ setValue k n v) refl refl refl refl refl refl refl refl c h
+
+pub plain-reading : (c : Component) (n : Name) → OneOf plain (tagOf the-type c) → Nothing ≡ readParameter c n
+unfolding readParameter
+plain-reading c n h = plain-is (λ k. Nothing ≡ readParameter k n) refl refl refl refl refl refl refl refl c h
 
 pub uncentred-vec3 : (c : Component) (n : Name) (v : Vec3) → OneOf uncentred (tagOf the-type c) → DoesNotFit ≡ setVec3 c n v
 unfolding setVec3
