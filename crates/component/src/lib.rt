@@ -2,4 +2,6 @@
 pub mod math;
 pub mod model_component;
 pub mod parameter;
+pub mod reading;
+pub mod setting;
 pub mod shape;

@@ -1,8 +1,8 @@
--- `component::model_component::set_apart` meets its contract. Assumes nothing.
+-- `component::setting::set_apart` meets its contract. Assumes nothing.
 use mathlib.Core.Path.{sym, _∙_}
 use borrow.Author.Needs.{needs}
-use Rattle.component.proofs.model_component.set_apart.Statement.{statement}
-use Rattle.component.proofs.model_component.set_apart.Tie as tie
+use Rattle.component.proofs.setting.set_apart.Statement.{statement}
+use Rattle.component.proofs.setting.set_apart.Tie as tie
 
 too-near-requires : tie.Need-too-near-requires
 too-near-requires c κs = search needs

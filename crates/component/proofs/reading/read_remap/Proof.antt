@@ -1,9 +1,9 @@
--- `component::model_component::read_remap` meets its contract. Assumes nothing.
+-- `component::reading::read_remap` meets its contract. Assumes nothing.
 use borrow.Author.Needs.{needs}
 use mathlib.Core.Path.{sym, _∙_}
 use Rattle.component.specs.Parameter.{readParameter, nameFromMin, nameFromMax, nameToMin, nameToMax}
-use Rattle.component.proofs.model_component.read_remap.Statement.{statement}
-use Rattle.component.proofs.model_component.read_remap.Tie as tie
+use Rattle.component.proofs.reading.read_remap.Statement.{statement}
+use Rattle.component.proofs.reading.read_remap.Tie as tie
 
 slice-aggregate-same-bytes : tie.Need-slice-aggregate-same-bytes
 slice-aggregate-same-bytes c = search needs

@@ -1,9 +1,9 @@
--- `component::model_component::read_sphere` meets its contract. Assumes nothing.
+-- `component::reading::read_sphere` meets its contract. Assumes nothing.
 use borrow.Author.Needs.{needs}
 use mathlib.Core.Path.{sym, _∙_}
 use Rattle.component.specs.Parameter.{readParameter, nameCentre, nameRadius}
-use Rattle.component.proofs.model_component.read_sphere.Statement.{statement}
-use Rattle.component.proofs.model_component.read_sphere.Tie as tie
+use Rattle.component.proofs.reading.read_sphere.Statement.{statement}
+use Rattle.component.proofs.reading.read_sphere.Tie as tie
 
 slice-aggregate-same-bytes : tie.Need-slice-aggregate-same-bytes
 slice-aggregate-same-bytes c = search needs

@@ -1,10 +1,10 @@
--- `component::model_component::read_parameter` meets its contract: each arm is the definition at its kind. Assumes nothing.
+-- `component::reading::read_parameter` meets its contract: each arm is the definition at its kind. Assumes nothing.
 use borrow.Author.Needs.{needs}
 use denote.Ref.{now}
 use Rattle.component.specs.Parameter.{readParameter, nameValue, nameFactor, nameDistance, nameThickness}
 use Rattle.component.proofs.Arms.{plain-reading}
-use Rattle.component.proofs.model_component.read_parameter.Statement.{statement}
-use Rattle.component.proofs.model_component.read_parameter.Tie as tie
+use Rattle.component.proofs.reading.read_parameter.Statement.{statement}
+use Rattle.component.proofs.reading.read_parameter.Tie as tie
 
 enum-known-c : tie.Need-enum-known-c
 enum-known-c c = search needs

@@ -1,9 +1,9 @@
--- `component::model_component::set_torus` meets its contract. Assumes nothing.
+-- `component::setting::set_torus` meets its contract. Assumes nothing.
 use borrow.Author.Needs.{needs}
 use mathlib.Core.Path.{sym, _∙_}
 use Rattle.component.specs.Parameter.{setValue, nameRadius, nameThickness}
-use Rattle.component.proofs.model_component.set_torus.Statement.{statement}
-use Rattle.component.proofs.model_component.set_torus.Tie as tie
+use Rattle.component.proofs.setting.set_torus.Statement.{statement}
+use Rattle.component.proofs.setting.set_torus.Tie as tie
 
 slice-aggregate-same-bytes : tie.Need-slice-aggregate-same-bytes
 slice-aggregate-same-bytes c = search needs

@@ -1,8 +1,8 @@
--- `component::model_component::set_named` meets its contract. Assumes nothing.
+-- `component::setting::set_named` meets its contract. Assumes nothing.
 use mathlib.Core.Path.{sym, _∙_}
 use borrow.Author.Needs.{needs}
-use Rattle.component.proofs.model_component.set_named.Statement.{statement}
-use Rattle.component.proofs.model_component.set_named.Tie as tie
+use Rattle.component.proofs.setting.set_named.Statement.{statement}
+use Rattle.component.proofs.setting.set_named.Tie as tie
 
 same-bytes-requires : tie.Need-same-bytes-requires
 same-bytes-requires c κs = search needs

@@ -1,8 +1,8 @@
--- `component::model_component::read_named` meets its contract. Assumes nothing.
+-- `component::reading::read_named` meets its contract. Assumes nothing.
 use borrow.Author.Needs.{needs}
 use mathlib.Core.Path.{sym, _∙_}
-use Rattle.component.proofs.model_component.read_named.Statement.{statement}
-use Rattle.component.proofs.model_component.read_named.Tie as tie
+use Rattle.component.proofs.reading.read_named.Statement.{statement}
+use Rattle.component.proofs.reading.read_named.Tie as tie
 
 same-bytes-requires : tie.Need-same-bytes-requires
 same-bytes-requires c κs = search needs

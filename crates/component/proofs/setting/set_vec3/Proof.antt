@@ -1,10 +1,10 @@
--- `component::model_component::set_vec3` meets its contract: each arm is the definition at its kind. Assumes nothing.
+-- `component::setting::set_vec3` meets its contract: each arm is the definition at its kind. Assumes nothing.
 use borrow.Author.Needs.{needs}
 use denote.Ref.{now}
 use Rattle.component.specs.Parameter.{setVec3, nameCentre}
 use Rattle.component.proofs.Arms.{uncentred-vec3}
-use Rattle.component.proofs.model_component.set_vec3.Statement.{statement}
-use Rattle.component.proofs.model_component.set_vec3.Tie as tie
+use Rattle.component.proofs.setting.set_vec3.Statement.{statement}
+use Rattle.component.proofs.setting.set_vec3.Tie as tie
 
 enum-known-c : tie.Need-enum-known-c
 enum-known-c c = search needs

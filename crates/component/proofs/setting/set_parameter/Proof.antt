@@ -1,8 +1,8 @@
--- `component::model_component::set_parameter` meets its contract. Assumes nothing.
+-- `component::setting::set_parameter` meets its contract. Assumes nothing.
 use borrow.Author.Needs.{needs}
 use Rattle.component.specs.Parameter.{setParameter}
-use Rattle.component.proofs.model_component.set_parameter.Statement.{statement}
-use Rattle.component.proofs.model_component.set_parameter.Tie as tie
+use Rattle.component.proofs.setting.set_parameter.Statement.{statement}
+use Rattle.component.proofs.setting.set_parameter.Tie as tie
 
 enum-known-data : tie.Need-enum-known-data
 enum-known-data c = search needs
