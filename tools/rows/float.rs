@@ -7,19 +7,19 @@ const NAN: u64 = 0x7ff8_0000_0000_0000;
 const TWO: [&str; 6] = ["sum", "difference", "product", "quotient", "min", "max"];
 
 /// A NaN's bits are written as document 01 hands one out.
-fn bits(x: f64) -> u64 {
+pub fn bits(x: f64) -> u64 {
     if x.is_nan() { NAN } else { x.to_bits() }
 }
 
 /// Document 01's rule. The Rust leaves open which of two zeros with opposite signs it gives.
-fn min(a: f64, b: f64) -> f64 {
+pub fn min(a: f64, b: f64) -> f64 {
     if a == 0.0 && b == 0.0 {
         return if a.is_sign_negative() || b.is_sign_negative() { -0.0 } else { 0.0 };
     }
     a.min(b)
 }
 
-fn max(a: f64, b: f64) -> f64 {
+pub fn max(a: f64, b: f64) -> f64 {
     if a == 0.0 && b == 0.0 {
         return if a.is_sign_negative() && b.is_sign_negative() { -0.0 } else { 0.0 };
     }
