@@ -1,0 +1,4 @@
+pub mod Carry
+pub mod Order
+pub mod Number
+pub mod Compile
