@@ -1,4 +1,7 @@
--- `Bool`: tests as facts. `Table`: what a table holds after a change. `Valid`: what 7 asks, by lookups.
+-- `Bool`: tests as facts. `Table`: what a table holds after a change. `Valid`: what 7 asks, by lookups. `Change`: what is found after a change. `Places`: the places of a list after a change. `Numbered`: the tag made.
 pub mod Bool
 pub mod Table
 pub mod Valid
+pub mod Change
+pub mod Places
+pub mod Numbered

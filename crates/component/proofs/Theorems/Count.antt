@@ -1,6 +1,6 @@
--- A parameter set keeps the count of inputs; and no count passes three. Assumes nothing.
-use mathlib.Core.Path.{_≡_, refl, subst}
-use mathlib.Core.Bool.{Bool, true, false, cond}
+-- A parameter set keeps the count of inputs; no count passes three; a function takes none. Assumes nothing.
+use mathlib.Core.Path.{_≡_, refl, sym, subst}
+use mathlib.Core.Bool.{Bool, true, false, cond, true≢false}
 use Prim.Native.Nat.{ℕ}
 use lib.Dec.{T, leb}
 use lib.Ieee.{Float}
@@ -13,6 +13,7 @@ use Rattle.component.specs.declared.model_component.Setting.the-variants
 use Rattle.component.specs.declared.model_component.Component.{Component}
 use Rattle.component.specs.declared.model_component.Component.the-variants.{Constant, Sphere, Torus, Multiply, Add, Subtract, Divide, Lerp, VariableLerp, Remap, BooleanUnion, BooleanIntersection, BooleanDifference, Offset, Thickness}
 use Rattle.component.specs.Value.{inputCount}
+use Rattle.component.specs.Kind.{isFunction}
 use Rattle.component.specs.Parameter.{Name, nameCentre, nameRadius, nameThickness, nameFactor, nameFromMin, nameFromMax, nameToMin, nameToMax, nameDistance, tooNear, setValue, setVec3, setParameter}
 
 -- what is left, if anything changed, takes n inputs
@@ -91,3 +92,21 @@ count-few BooleanIntersection = tt
 count-few BooleanDifference = tt
 count-few (Offset distance) = tt
 count-few (Thickness t) = tt
+
+-- what `add_function` adds takes no inputs
+pub function-none : (c : Component) → isFunction c ≡ true → inputCount c ≡ 0
+function-none (Constant v) e = refl
+function-none (Sphere s) e = refl
+function-none (Torus s) e = refl
+function-none Multiply e = absurd (true≢false (sym e))
+function-none Add e = absurd (true≢false (sym e))
+function-none Subtract e = absurd (true≢false (sym e))
+function-none Divide e = absurd (true≢false (sym e))
+function-none (Lerp factor) e = absurd (true≢false (sym e))
+function-none VariableLerp e = absurd (true≢false (sym e))
+function-none (Remap a b c d) e = absurd (true≢false (sym e))
+function-none BooleanUnion e = absurd (true≢false (sym e))
+function-none BooleanIntersection e = absurd (true≢false (sym e))
+function-none BooleanDifference e = absurd (true≢false (sym e))
+function-none (Offset distance) e = absurd (true≢false (sym e))
+function-none (Thickness t) e = absurd (true≢false (sym e))
