@@ -1,7 +1,9 @@
--- `Bool`: tests as facts. `Table`: what a table holds after a change. `Valid`: what 7 asks, by lookups. `Change`: what is found after a change. `Places`: the places of a list after a change. `Numbered`: the tag made.
+-- `Bool`: tests as facts. `Table`: what a table holds after a change. `Valid`: what 7 asks, by lookups. `Change`: what is found after a change. `Places`: the places of a list after a change. `Numbered`: the tag that is made. `Line`: the line of the walk. `Even`: tables that hold the same.
 pub mod Bool
 pub mod Table
 pub mod Valid
 pub mod Change
 pub mod Places
 pub mod Numbered
+pub mod Line
+pub mod Even

@@ -1,2 +1,4 @@
--- `Keep`: every edit keeps 7.
+-- `Keep`: every edit keeps 7. `Walk`: the wiring walk ends by itself. `Alike`: an edit does not see table positions.
 pub mod Keep
+pub mod Walk
+pub mod Alike
