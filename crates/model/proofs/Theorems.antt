@@ -1,4 +1,13 @@
-pub mod Carry
+-- `Keep`: every edit keeps 7. `Walk`: the wiring walk ends by itself. `Alike`: an edit does not see table positions.
+-- `Order`: a target closes a cycle or has an order, as long as its reach is large. `Number`: what compiles has one number. `Compile`, `Evaluate`: one answer, and always one.
+-- `Carry`: a form carried into another model. `Agree`: same reach, same everything. `Kept`: a refused edit changes nothing. `Outside`, `Renaming`: which edits spare a form. `Steady`: demand 3.
+pub mod Keep
+pub mod Walk
+pub mod Alike
 pub mod Order
 pub mod Number
 pub mod Compile
+pub mod Evaluate
+pub mod Carry
+pub mod Agree
+pub mod Kept
