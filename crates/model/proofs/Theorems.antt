@@ -11,3 +11,6 @@ pub mod Evaluate
 pub mod Carry
 pub mod Agree
 pub mod Kept
+pub mod Outside
+pub mod Renaming
+pub mod Steady

@@ -1,14 +1,14 @@
 -- Same reach, same everything: two models that agree on what a target reaches have the same orders of it, compile's same answer and the same reply at every point. Assumes nothing.
-use mathlib.Core.Path.{_≡_, refl, sym, _∙_, ap, subst}
-use mathlib.Core.List.{List, [], _∷_, _++_, List·Memᴰ, List·Memᴰ·head, Memᴰ·append-left, Memᴰ·append-right}
+use mathlib.Core.Path.{refl, sym, _∙_, ap, subst}
+use mathlib.Core.List.{List, [], _∷_, List·Memᴰ, List·Memᴰ·head, Memᴰ·append-left, Memᴰ·append-right}
 use mathlib.Core.Option.{none, some}
 use Prim.Native.Nat.{ℕ}
 use lib.Dec.{T, T-not}
-use Rattle.tag.specs.Tags.{Tag, before}
+use Rattle.tag.specs.Tags.{Tag}
 use Rattle.geometry.specs.declared.vec3f.Vec3.{Vec3}
 use Rattle.model.specs.Model.{Model, valid}
 use Rattle.model.specs.Walk.{gap}
-use Rattle.model.specs.Form.{Wire, Reach, here, along, Cyclic, Absent, Gapped, Least, Refuses, invalid, long, cyclic, absent, gapped, Placed, start, then, Order, Compiling, Compiled, order, refusal, Evaluated, number, refused-by, Reply}
+use Rattle.model.specs.Form.{Reach, here, along, Cyclic, Absent, Gapped, Least, Refuses, invalid, long, cyclic, absent, gapped, Placed, start, then, Order, Compiling, Compiled, order, refusal, Evaluated, number, refused-by, Reply}
 use Rattle.model.specs.Steady.{Agrees}
 use Rattle.model.proofs.Laws.Reach.{reach-on}
 use Rattle.model.proofs.Theorems.Carry.{agree-carries, inputs-agree, reach-back, compiles-carried, number-carried}
@@ -49,7 +49,7 @@ module _ {m n : Model} {t : Tag} (h : Agrees m t n) where
   placed-on start r = start
   placed-on (then {o = o} {a = a} p f w) r =
       then (placed-on p (λ b i. r b (Memᴰ·append-left (a ∷ []) i))) f
-        (λ b v. w b (subst (List·Memᴰ (some b)) (inputs-agree h (r a (Memᴰ·append-right o (List·Memᴰ·head refl)))) v))
+      (λ b v. w b (subst (List·Memᴰ (some b)) (inputs-agree h (r a (Memᴰ·append-right o (List·Memᴰ·head refl)))) v))
 
   pub order-agrees : {o : List Tag} → Order m t o → Order n t o
   order-agrees x = record {
@@ -73,7 +73,7 @@ module _ {m n : Model} {t : Tag} (v : T (valid m)) (w : T (valid n)) (h : Agrees
   refuses-agrees (gapped x q c d l e) =
       let g = agrees-sym h in
       gapped w q (λ y. c (cyclic-on g y)) (λ b y. d b (absent-on g y))
-        (least-on (Gapped m t) (Gapped n t) (λ b. gapped-on h) (λ b. gapped-on g) l) (ap (gap 0) (inputs-agree h (l .0 .0)) ∙ e)
+      (least-on (Gapped m t) (Gapped n t) (λ b. gapped-on h) (λ b. gapped-on g) l) (ap (gap 0) (inputs-agree h (l .0 .0)) ∙ e)
 
   pub compiled-agrees : {r : Compiling} {o : List Tag} → Compiled m t r o → Compiled n t r o
   compiled-agrees (refusal x) = refusal (refuses-agrees x)

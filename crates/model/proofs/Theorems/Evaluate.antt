@@ -1,5 +1,5 @@
 -- Document 01's `evaluate_at`: it always answers, and with one answer only: a form that compiles gets its number, any other compile's refusal. Assumes nothing.
-use mathlib.Core.Path.{_≡_, refl, sym, ap, subst}
+use mathlib.Core.Path.{_≡_, sym, ap, subst}
 use mathlib.Core.Logic.{_↔_}
 use mathlib.Core.List.{List}
 use lib.Dec.{T}
