@@ -2,3 +2,7 @@
 pub mod Keep
 pub mod Walk
 pub mod Alike
+pub mod Carry
+pub mod Order
+pub mod Number
+pub mod Compile
