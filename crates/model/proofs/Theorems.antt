@@ -6,3 +6,4 @@ pub mod Carry
 pub mod Order
 pub mod Number
 pub mod Compile
+pub mod Cases

@@ -77,7 +77,7 @@ module _ {f : Tag → Tag} {m n : Model} {t : Tag} (c : Carries f m t n) where
     pub number-carried : {p : Vec3} {a : Tag} {x : Float} → Number m p a x → Reach m t a → Number n p (f a) x
     number-carried {p} {a} (worked k xs e ns q) r =
         worked k xs (c .components a r ∙ e)
-          (subst (λ (l : List Place). Numbers n p l xs) (sym (c .places a r)) (numbers-carried ns (λ b w. along r w))) q
+        (subst (λ (l : List Place). Numbers n p l xs) (sym (c .places a r)) (numbers-carried ns (λ b w. along r w))) q
 
     numbers-carried : {p : Vec3} {l : List Place} {xs : List Float} → Numbers m p l xs → ((b : Tag) → List·Memᴰ (some b) l → Reach m t b)
         → Numbers n p (map (retag f) l) xs

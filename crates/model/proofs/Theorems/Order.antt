@@ -137,9 +137,9 @@ module _ (m : Model) (t : Tag) where
   below zero a above lt r new once listed over o p = absurd (omega (arith, once-le once listed, keys-length (m .lists)))
   below (suc k) a above lt r new once listed over o p =
       each (tags (inputs m a)) (λ b i o p.
-        let w = named-wire (inputs m a) i in
-        enter (along r w) (over-next w over) (mem? b (a ∷ above)) (λ n.
-          below k b (a ∷ above) (omega arith) (along r w) n (one-more new once) (with-key w) (over-next w over) o p)) o p
+      let w = named-wire (inputs m a) i in
+      enter (along r w) (over-next w over) (mem? b (a ∷ above)) (λ n.
+      below k b (a ∷ above) (omega arith) (along r w) n (one-more new once) (with-key w) (over-next w over) o p)) o p
     where
       with-key : {b : Tag} → Wire m a b → (d : Tag) → List·Memᴰ d (a ∷ above) → List·Memᴰ d (keys (m .lists))
       with-key w d (List·Memᴰ·head e) = Memᴰ·cast e (wire-key w)
@@ -164,12 +164,15 @@ module _ (m : Model) (t : Tag) where
           at (yes i) = let x = from (f .only t i) in inl (record { tag = t; next = x .0; reached = here; wire = x .1; back = x .2 })
           at (no n) =
               let p = then (f .placed) n (λ b w. f .named b (wire-named (inputs m t) w)) in
-              inr (f .order ++ t ∷ [], record {
-                placed = p;
-                reached = λ b i. reached (List·Memᴰ·append-cases (f .order) i);
-                all = λ b r. placed-closed p (Memᴰ·append-right (f .order) (List·Memᴰ·head refl)) r;
-                last = (f .order, refl);
-              })
+              inr (
+                f .order ++ t ∷ [],
+                record {
+                  placed = p;
+                  reached = λ b i. reached (List·Memᴰ·append-cases (f .order) i);
+                  all = λ b r. placed-closed p (Memᴰ·append-right (f .order) (List·Memᴰ·head refl)) r;
+                  last = (f .order, refl);
+                },
+              )
 
       go : Cyclic m t ⊎ Followed m (tags (inputs m t)) [] → Cyclic m t ⊎ ((o : List Tag) × Order m t o)
       go (inl c) = inl c
