@@ -1,14 +1,14 @@
 -- Document 01's proved cases P1 to P12, and rows beside them, about the definitions: one table with a single claim. Assumes nothing.
 use mathlib.Core.Path.{_≡_, refl, sym, subst}
 use mathlib.Core.Logic.{_≢_}
-use mathlib.Core.Bool.{Bool, true, false}
+use mathlib.Core.Bool.{true, false}
 use mathlib.Core.List.{List, [], _∷_, _++_, List·Memᴰ, List·Memᴰ·head, List·Memᴰ·tail, List·Memᴰ·eq-of-singleton}
 use mathlib.Core.Option.{Option, none, some}
-use Prim.Native.Nat.{ℕ, zero, suc}
+use Prim.Native.Nat.{ℕ}
 use native.Mathlib.Omega.{arith}
 use lib.IntN.{pos, negsuc}
 use lib.Ieee.{Float, nan, fin, add, sub, mul, div, neg, lt, isNan, round, sum, size}
-use Rattle.tag.specs.Tags.{Tag, is, overlong, decimal, numbered}
+use Rattle.tag.specs.Tags.{Tag, is, overlong, decimal}
 use Rattle.float.specs.RootOf.{rootOf}
 use Rattle.float.specs.Extrema.{minimumNumber, maximumNumber}
 use Rattle.geometry.specs.Distance.{toCoord, toSphere, signedRoot, toTorus}
@@ -19,8 +19,8 @@ use Rattle.component.specs.declared.model_component.Component.the-variants.{Con
 use Rattle.model.specs.Table.{find, held, distinct, cut, put, each, move}
 use Rattle.model.specs.Model.{Place, Model, new, component, list, inputs, valid}
 use Rattle.model.specs.Walk.{gap, tags, fresh, walk, total, walkFrom}
-use Rattle.model.specs.Edit.{Edit, addOperation, addConstant, addFunction, addComponent, addInput, removeInput, removeComponent, renameComponent, Answer, done, made, refused, check, addPlain, addOp, firstFree, freeTag, addUnder, addAny, addWire, removeWire, swap, remove, rename, edit, apply}
-use Rattle.model.specs.Form.{Reach, here, along, Refuses, cyclic, Placed, start, then, Order, Compiles, Compiled, order, ordered, value, Number, worked, nothing, another}
+use Rattle.model.specs.Edit.{Edit, addOperation, addConstant, addComponent, addInput, removeComponent, renameComponent, Answer, done, made, refused, check, addPlain, addOp, firstFree, freeTag, addUnder, addAny, addWire, swap, remove, rename, edit, apply}
+use Rattle.model.specs.Form.{Reach, here, along, Refuses, cyclic, Placed, start, then, Order, Compiled, order, ordered, value, Number, worked, nothing, another}
 use Rattle.model.proofs.Laws.Reach.{placed-closed}
 use Rattle.model.proofs.Laws.Valid.{some-some, none-some}
 use Rattle.model.proofs.Theorems.Order.{order-acyclic}

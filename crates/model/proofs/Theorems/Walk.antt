@@ -11,8 +11,9 @@ use Rattle.tag.specs.Tags.{Tag, is}
 use Rattle.tag.proofs.Laws.Is.{is-refl, is-true}
 use Rattle.model.specs.Model.{Place, Model, inputs}
 use Rattle.model.specs.Walk.{gap, tags, fresh, Walked, clear, met, gapped, walk, total, walkFrom}
-use Rattle.model.specs.Form.{Wire, Reach, here, along}
+use Rattle.model.specs.Form.{Wire, Reach, here, along, Gapped}
 use Rattle.model.proofs.Laws.Bool.{true→T}
+use Rattle.model.proofs.Laws.Valid.{none-some}
 use Rattle.model.proofs.Laws.Line.{lefts, fresh-inputs, lefts-total, enough}
 use Rattle.model.proofs.Laws.Fresh.{fresh-new, fresh-of, fresh-once, fresh-all, once-both}
 use Rattle.model.proofs.Laws.Once.{Once, no-tag, one-more}
@@ -43,11 +44,16 @@ turns zero m seen line = []
 turns (suc k) m seen [] = []
 turns (suc k) m seen (t ∷ line) = let more = fresh seen (tags (inputs m t)) in t ∷ turns k m (more ++ seen) (line ++ more)
 
+-- one turn, at a tag that is the target or not and has a first gap or none: else what follows
+abbrev pub turn : Tag → Walked → Bool → Option ℕ → Walked
+turn t w true g = met
+turn t w false (some i) = gapped t i
+turn t w false none = w
+
 -- the first of the tags that is the target or has a gap
 unfoldable pub look : Model → Tag → List Tag → Walked
 look m target [] = clear
-look m target (t ∷ ts) =
-    elim (is t target) as (λ _. Walked) [ true ↦ met | false ↦ elim (gap 0 (inputs m t)) as (λ _. Walked) [ some i ↦ gapped t i | none ↦ look m target ts ] ]
+look m target (t ∷ ts) = turn t (look m target ts) (is t target) (gap 0 (inputs m t))
 
 unfoldable pub meets : Model → Tag → List Tag
 meets m source = turns (suc (suc (total (m .lists)))) m (source ∷ []) (source ∷ [])
@@ -57,8 +63,13 @@ unfolding walk turns look
 looks zero m target seen line = refl
 looks (suc k) m target seen [] = refl
 looks (suc k) m target seen (t ∷ line) =
-    ap (λ (w : Walked). elim (is t target) as (λ _. Walked) [ true ↦ met | false ↦ elim (gap 0 (inputs m t)) as (λ _. Walked) [ some i ↦ gapped t i | none ↦ w ] ])
-    (looks k m target (fresh seen (tags (inputs m t)) ++ seen) (line ++ fresh seen (tags (inputs m t))))
+    go (is t target) (gap 0 (inputs m t)) (looks k m target (fresh seen (tags (inputs m t)) ++ seen) (line ++ fresh seen (tags (inputs m t))))
+  where
+    go : (b : Bool) (g : Option ℕ) {w v : Walked} → w ≡ v
+        → elim b as (λ _. Walked) [ true ↦ met | false ↦ elim g as (λ _. Walked) [ some i ↦ gapped t i | none ↦ w ] ] ≡ turn t v b g
+    go true g e = refl
+    go false (some i) e = refl
+    go false none e = e
 
 pub walk-looks : (m : Model) (target source : Tag) → walkFrom m target source ≡ look m target (meets m source)
 unfolding walkFrom meets
@@ -163,3 +174,78 @@ module _ (m : Model) where
         meets-reach a,
       );
     }
+
+-- ---- what its end says
+
+clear-met : {A : Type 0} → clear ≡ met → A
+clear-met e = let z : _≡_ {A = ℕ} 0 1 = cc in absurd (omega arith)
+
+clear-gapped : {A : Type 0} {a : Tag} {i : ℕ} → clear ≡ gapped a i → A
+clear-gapped e = let z : _≡_ {A = ℕ} 0 1 = cc in absurd (omega arith)
+
+gapped-met : {A : Type 0} {a : Tag} {i : ℕ} → gapped a i ≡ met → A
+gapped-met e = let z : _≡_ {A = ℕ} 0 1 = cc in absurd (omega arith)
+
+look-met : (m : Model) (target : Tag) (ts : List Tag) → look m target ts ≡ met → List·Memᴰ target ts
+unfolding look
+look-met m target [] e = clear-met e
+look-met m target (t ∷ ts) e = go (look-met m target ts) (is t target) refl (gap 0 (inputs m t)) e
+  where
+    go : (look m target ts ≡ met → List·Memᴰ target ts) → (b : Bool) → is t target ≡ b → (g : Option ℕ) → turn t (look m target ts) b g ≡ met → List·Memᴰ target (t ∷ ts)
+    go ih true q g e = List·Memᴰ·head (sym (is-true t target q))
+    go ih false q (some i) e = gapped-met e
+    go ih false q none e = List·Memᴰ·tail (ih e)
+
+look-gapped : (m : Model) (target : Tag) {a : Tag} {i : ℕ} (ts : List Tag) → look m target ts ≡ gapped a i → List·Memᴰ a ts × (gap 0 (inputs m a) ≡ some i)
+unfolding look
+look-gapped m target [] e = clear-gapped e
+look-gapped m target {a} {i} (t ∷ ts) e = go (look-gapped m target ts) (is t target) (gap 0 (inputs m t)) refl e
+  where
+    go : (look m target ts ≡ gapped a i → List·Memᴰ a ts × (gap 0 (inputs m a) ≡ some i)) → (b : Bool) (g : Option ℕ) → gap 0 (inputs m t) ≡ g
+        → turn t (look m target ts) b g ≡ gapped a i → List·Memᴰ a (t ∷ ts) × (gap 0 (inputs m a) ≡ some i)
+    go ih true g q e = gapped-met (sym e)
+    go ih false (some j) q e =
+        let x : t ≡ a = cc in
+        let y : j ≡ i = cc in
+        (List·Memᴰ·head (sym x), ap (λ (z : Tag). gap 0 (inputs m z)) (sym x) ∙ (q ∙ ap some y))
+    go ih false none q e = let x = ih e in (List·Memᴰ·tail (x .0), x .1)
+
+look-clear : (m : Model) (target : Tag) (ts : List Tag) → look m target ts ≡ clear → (a : Tag) → List·Memᴰ a ts → (a ≢ target) × (gap 0 (inputs m a) ≡ none)
+unfolding look
+look-clear m target [] e a i = elim i [ ]
+look-clear m target (t ∷ ts) e a i = go (λ e j. look-clear m target ts e a j) (is t target) refl (gap 0 (inputs m t)) refl e i
+  where
+    go : (look m target ts ≡ clear → List·Memᴰ a ts → (a ≢ target) × (gap 0 (inputs m a) ≡ none)) → (b : Bool) → is t target ≡ b → (g : Option ℕ) → gap 0 (inputs m t) ≡ g
+        → turn t (look m target ts) b g ≡ clear → List·Memᴰ a (t ∷ ts) → (a ≢ target) × (gap 0 (inputs m a) ≡ none)
+    go ih true p g q e i = clear-met (sym e)
+    go ih false p (some j) q e i = clear-gapped (sym e)
+    go ih false p none q e (List·Memᴰ·head x) =
+        (λ y. true→T false (sym p ∙ (ap (λ (z : Tag). is z target) (sym x ∙ y) ∙ is-refl target)), ap (λ (z : Tag). gap 0 (inputs m z)) x ∙ q)
+    go ih false p none q e (List·Memᴰ·tail i) = ih e i
+
+-- a list has no gap where no place is unassigned
+gap-none : (i : ℕ) (l : List Place) → gap i l ≡ none → ¬ List·Memᴰ none l
+unfolding gap
+gap-none i [] e j = elim j [ ]
+gap-none i (none ∷ l) e j = none-some (sym e)
+gap-none i (some t ∷ l) e (List·Memᴰ·head q) = none-some q
+gap-none i (some t ∷ l) e (List·Memᴰ·tail j) = gap-none (suc i) l e j
+
+module _ (m : Model) (target source : Tag) where
+  -- 14 is answered only where the source reaches the target
+  pub walk-met : walkFrom m target source ≡ met → Reach m source target
+  walk-met e = walk-meets m source .exactly target .0 (look-met m target (meets m source) (sym (walk-looks m target source) ∙ e))
+
+  -- 13 carries a tag that the source reaches, and the lowest index of its unassigned places
+  pub walk-gapped : {a : Tag} {i : ℕ} → walkFrom m target source ≡ gapped a i → Reach m source a × (gap 0 (inputs m a) ≡ some i)
+  walk-gapped {a} e =
+      let x = look-gapped m target (meets m source) (sym (walk-looks m target source) ∙ e) in
+      (walk-meets m source .exactly a .0 (x .0), x .1)
+
+  -- a wire is taken only where the source does not reach the target, and reaches no unassigned place
+  pub walk-clear : walkFrom m target source ≡ clear → (¬ Reach m source target) × ((a : Tag) → ¬ Gapped m source a)
+  walk-clear e =
+      let x = look-clear m target (meets m source) (sym (walk-looks m target source) ∙ e) in (
+        λ r. x target (walk-meets m source .exactly target .1 r) .0 refl,
+        λ a g. gap-none 0 (inputs m a) (x a (walk-meets m source .exactly a .1 (g .0)) .1) (g .1),
+      )
