@@ -3,4 +3,6 @@ pub mod kind;
 pub mod math;
 pub mod model_component;
 pub mod parameter;
+pub mod reading;
+pub mod setting;
 pub mod shape;
