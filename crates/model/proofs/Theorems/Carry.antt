@@ -2,7 +2,6 @@
 use mathlib.Core.Path.{_≡_, refl, sym, _∙_, ap, subst}
 use mathlib.Core.List.{List, [], _∷_, map, List·Memᴰ, List·Memᴰ·head, List·Memᴰ·tail}
 use mathlib.Core.Option.{Option, none, some, Option·getD}
-use Prim.Native.Nat.{ℕ}
 use lib.Ieee.{Float}
 use Rattle.tag.specs.Tags.{Tag}
 use Rattle.geometry.specs.declared.vec3f.Vec3.{Vec3}

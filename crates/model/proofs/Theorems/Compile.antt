@@ -11,7 +11,7 @@ use Rattle.component.specs.declared.model_component.Component.{Component}
 use Rattle.model.specs.Model.{Place, Model, component, inputs, valid}
 use Rattle.model.specs.Walk.{gap}
 use Rattle.model.specs.Form.{Reach, here, Cyclic, Absent, Gapped, Compiles, Least, Refuses, invalid, long, cyclic, absent, gapped, Order, Compiling, ordered, stopped, Compiled, order, refusal}
-use Rattle.model.proofs.Laws.Valid.{some-some, none-some, valid-short}
+use Rattle.model.proofs.Laws.Valid.{none-some, valid-short}
 use Rattle.model.proofs.Laws.Once.{mem?}
 use Rattle.model.proofs.Laws.Least.{least-unique, least-or-none}
 use Rattle.model.proofs.Theorems.Order.{cycle-or-order, order-acyclic}
