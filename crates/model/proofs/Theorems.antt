@@ -3,6 +3,7 @@
 -- `Carry`: a form carried into another model. `Agree`: same reach, same everything. `Kept`: a refused edit changes nothing. `Outside`, `Renaming`: which edits spare a form. `Steady`: demand 3.
 pub mod Keep
 pub mod Walk
+pub mod Free
 pub mod Alike
 pub mod Order
 pub mod Number
