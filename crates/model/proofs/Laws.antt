@@ -7,6 +7,7 @@ pub mod Change
 pub mod Places
 pub mod Numbered
 pub mod Line
+pub mod Fresh
 pub mod Even
 pub mod Once
 pub mod Reach
