@@ -11,7 +11,7 @@ use lib.Ieee.{Float, nan, fin, add, sub, mul, div, neg, lt, isNan, round, sum, s
 use Rattle.tag.specs.Tags.{Tag, is, overlong, decimal}
 use Rattle.float.specs.RootOf.{rootOf}
 use Rattle.float.specs.Extrema.{minimumNumber, maximumNumber}
-use Rattle.geometry.specs.Distance.{toCoord, toSphere, signedRoot, toTorus}
+use Rattle.geometry.specs.Distance.{toCoord, toCoordSquared, toSphere, signedRoot, toTorus}
 use Rattle.geometry.specs.declared.vec3f.Vec3.{Vec3}
 use Rattle.component.specs.Value.{compute}
 use Rattle.component.specs.declared.model_component.Component.{Component}
@@ -244,7 +244,7 @@ all-at (q ∷ l) h r (List·Memᴰ·head e) = subst Holds (sym e) (h .0)
 all-at (q ∷ l) h r (List·Memᴰ·tail i) = all-at l (h .1) r i
 
 rows : All table
-unfolding table value compute toSphere toCoord toTorus signedRoot rootOf minimumNumber maximumNumber add sub mul div neg lt isNan round sum size two
+unfolding table value compute toSphere toCoord toCoordSquared toTorus signedRoot rootOf minimumNumber maximumNumber add sub mul div neg lt isNan round sum size two
     find held distinct cut put each move gap tags fresh walk total walkFrom check addPlain addOp firstFree freeTag addUnder addAny addWire swap remove rename edit apply new valid overlong is decimal
 rows = (
   refl,
