@@ -1,6 +1,7 @@
 // The components of a form model: their kinds, values and parameters.
 pub mod math;
 pub mod model_component;
+pub mod naming;
 pub mod parameter;
 pub mod reading;
 pub mod setting;
