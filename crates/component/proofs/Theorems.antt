@@ -1,2 +1,3 @@
--- For other crates. `Setting`: a parameter set keeps the kind, and so the count of inputs.
+-- For other crates. `Setting`: a parameter set keeps the count of inputs. `Listed`: each parameter that a component lists can be read, and is what the list says.
 pub mod Setting
+pub mod Listed
