@@ -1,6 +1,6 @@
 -- `component::naming::remap_parameter` meets its contract. Assumes nothing.
-use borrow.Author.Needs.{needs}
 use native.Mathlib.Omega.{arith}
+use borrow.Author.Needs.{needs}
 use Rattle.component.specs.Names.{remapParameters}
 use Rattle.component.specs.Parameter.{nameFromMin, nameFromMax, nameToMin, nameToMax}
 use Rattle.component.proofs.Arms.{past}
@@ -54,7 +54,12 @@ described-requires-5 : tie.Need-described-requires-5
 described-requires-5 c κs = search needs
 
 returns-5 : tie.Need-returns-5
-returns-5 c = past remapParameters (c .before .before .before .before .before .before .args .i) (c .described5 .result) (let h1 = c .before .before .before .before .before .if1 .left in let h2 = c .before .before .before .before .if2 .left in let h3 = c .before .before .before .if3 .left in let h4 = c .before .before .if4 .left in omega arith) (c .described5 .ensures)
+returns-5 c =
+    let h4 = c .before .before .if4 .left in
+    let h3 = c .before .before .before .if3 .left in
+    let h2 = c .before .before .before .before .if2 .left in
+    let h1 = c .before .before .before .before .before .if1 .left in
+    past remapParameters (c .before .before .before .before .before .before .args .i) (c .described5 .result) (omega arith) (c .described5 .ensures)
 
 pub remap-parameter-spec : {M : Type 1} → statement M
 remap-parameter-spec =

@@ -1,6 +1,6 @@
 -- `component::naming::sphere_parameter` meets its contract. Assumes nothing.
-use borrow.Author.Needs.{needs}
 use native.Mathlib.Omega.{arith}
+use borrow.Author.Needs.{needs}
 use Rattle.component.specs.Names.{sphereParameters}
 use Rattle.component.specs.Parameter.{nameCentre, nameRadius}
 use Rattle.component.proofs.Arms.{past}
@@ -34,7 +34,10 @@ described-requires-3 : tie.Need-described-requires-3
 described-requires-3 c κs = search needs
 
 returns-3 : tie.Need-returns-3
-returns-3 c = past sphereParameters (c .before .before .before .before .args .i) (c .described3 .result) (let h1 = c .before .before .before .if1 .left in let h2 = c .before .before .if2 .left in omega arith) (c .described3 .ensures)
+returns-3 c =
+    let h2 = c .before .before .if2 .left in
+    let h1 = c .before .before .before .if1 .left in
+    past sphereParameters (c .before .before .before .before .args .i) (c .described3 .result) (omega arith) (c .described3 .ensures)
 
 pub sphere-parameter-spec : {M : Type 1} → statement M
 sphere-parameter-spec =

@@ -1,6 +1,6 @@
 -- `component::naming::torus_parameter` meets its contract. Assumes nothing.
-use borrow.Author.Needs.{needs}
 use native.Mathlib.Omega.{arith}
+use borrow.Author.Needs.{needs}
 use Rattle.component.specs.Names.{torusParameters}
 use Rattle.component.specs.Parameter.{nameCentre, nameRadius, nameThickness}
 use Rattle.component.proofs.Arms.{past}
@@ -44,7 +44,11 @@ described-requires-4 : tie.Need-described-requires-4
 described-requires-4 c κs = search needs
 
 returns-4 : tie.Need-returns-4
-returns-4 c = past torusParameters (c .before .before .before .before .before .args .i) (c .described4 .result) (let h1 = c .before .before .before .before .if1 .left in let h2 = c .before .before .before .if2 .left in let h3 = c .before .before .if3 .left in omega arith) (c .described4 .ensures)
+returns-4 c =
+    let h3 = c .before .before .if3 .left in
+    let h2 = c .before .before .before .if2 .left in
+    let h1 = c .before .before .before .before .if1 .left in
+    past torusParameters (c .before .before .before .before .before .args .i) (c .described4 .result) (omega arith) (c .described4 .ensures)
 
 pub torus-parameter-spec : {M : Type 1} → statement M
 torus-parameter-spec =
