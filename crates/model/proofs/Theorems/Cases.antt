@@ -12,7 +12,7 @@ use lib.Ieee.{Float, nan, fin, add, sub, mul, div, neg, lt, isNan, round, sum, s
 use Rattle.tag.specs.Tags.{Tag, is, before, overlong, decimal}
 use Rattle.float.specs.RootOf.{rootOf}
 use Rattle.float.specs.Extrema.{minimumNumber, maximumNumber}
-use Rattle.geometry.specs.Distance.{toCoord, toSphere, signedRoot, toTorus}
+use Rattle.geometry.specs.Distance.{toCoord, toCoordSquared, toSphere, signedRoot, toTorus}
 use Rattle.geometry.specs.declared.vec3f.Vec3.{Vec3}
 use Rattle.component.specs.Value.{compute}
 use Rattle.component.specs.Parameter.{nameFromMin, nameFromMax, tooNear, setValue, setParameter as parameterSet}
@@ -324,91 +324,24 @@ abbrev All : List Row → Type 0
 All [] = Unit {0}
 All (r ∷ l) = Holds r × All l
 
+-- one row and the rest
+infixr 5 _▸_
+abbrev _▸_ : {A B : Type 0} → A → B → A × B
+x ▸ y = (x, y)
+
 all-at : (l : List Row) → All l → (r : Row) → List·Memᴰ r l → Holds r
 all-at [] h r i = elim i [ ]
 all-at (q ∷ l) h r (List·Memᴰ·head e) = subst Holds (sym e) (h .0)
 all-at (q ∷ l) h r (List·Memᴰ·tail i) = all-at l (h .1) r i
 
 rows : All table
-unfolding table value compute toSphere toCoord toTorus signedRoot rootOf minimumNumber maximumNumber add sub mul div neg lt isNan round sum size two alone pair
+unfolding table value compute toSphere toCoord toCoordSquared toTorus signedRoot rootOf minimumNumber maximumNumber add sub mul div neg lt isNan round sum size two alone pair
     find held distinct cut put each move gap tags fresh walk total walkFrom check addPlain addOp firstFree freeTag addUnder addAny addWire swap remove rename setAt edit apply new valid overlong is decimal
     parameterSet setValue tooNear nameFromMin nameFromMax
-rows = (
-  refl,
-  (
-    refl,
-    (
-      refl,
-      (
-        refl,
-        (
-          refl,
-          (
-            refl,
-            (
-              refl,
-              (
-                refl,
-                (
-                  refl,
-                  (
-                    refl,
-                    (
-                      p11,
-                      (
-                        (p12, p12-number),
-                        (
-                          refl,
-                          (
-                            refl,
-                            (
-                              refl,
-                              (
-                                refl,
-                                (
-                                  refl,
-                                  (
-                                    refl,
-                                    (
-                                      refl,
-                                      (
-                                        refl,
-                                        (
-                                          refl,
-                                          (
-                                            refl,
-                                            (
-                                              refl,
-                                              (
-                                                gap-13,
-                                                (
-                                                  dangling-12,
-                                                  (refl, (refl, (refl, (refl, (refl, (refl, (refl, tt))))))),
-                                                ),
-                                              ),
-                                            ),
-                                          ),
-                                        ),
-                                      ),
-                                    ),
-                                  ),
-                                ),
-                              ),
-                            ),
-                          ),
-                        ),
-                      ),
-                    ),
-                  ),
-                ),
-              ),
-            ),
-          ),
-        ),
-      ),
-    ),
-  ),
-)
+rows =
+    refl ▸ refl ▸ refl ▸ refl ▸ refl ▸ refl ▸ refl ▸ refl ▸ refl ▸ refl ▸ p11 ▸ (p12, p12-number) ▸ refl ▸ refl
+    ▸ refl ▸ refl ▸ refl ▸ refl ▸ refl ▸ refl ▸ refl ▸ refl ▸ refl ▸ gap-13 ▸ dangling-12
+    ▸ refl ▸ refl ▸ refl ▸ refl ▸ refl ▸ refl ▸ refl ▸ tt
 
 -- every row of the table holds
 pub cases : (r : Row) → List·Memᴰ r table → Holds r

@@ -16,7 +16,7 @@ use Rattle.model.proofs.Laws.Reach.{wire-named, named-wire, reach-on, O
 
 -- ---- the count is the size of the reach
 
--- The list holds every reached tag once, and no other: its length is the size of the reach.
+-- The list holds every reached tag once and no other, so that its length is the size of the reach.
 pub record Holds (m : Model) (t : Tag) (l : List Tag) : Type 0 where
   pub once : Once l
   pub exactly : (a : Tag) → List·Memᴰ a l ↔ Reach m t a
