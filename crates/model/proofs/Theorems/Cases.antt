@@ -25,7 +25,7 @@ use Rattle.model.specs.Walk.{gap, tags, fresh, walk, total, walkFrom}
 use Rattle.model.specs.Edit.{Edit, addOperation, addConstant, addComponent, addInput, removeComponent, renameComponent, setParameter, Answer, done, made, refused, check, addPlain, addOp, firstFree, freeTag, addUnder, addAny, addWire, swap, remove, rename, setAt, edit, apply}
 use Rattle.model.specs.Form.{Wire, Reach, here, along, Cyclic, Refuses, cyclic, absent, gapped, Placed, start, then, Order, Compiled, order, ordered, value, Number, worked, nothing, another}
 use Rattle.model.proofs.Laws.Reach.{placed-closed}
-use Rattle.model.proofs.Laws.Valid.{some-some, none-some}
+use Rattle.model.proofs.Laws.Valid.{some-some, none-some, _▸_}
 use Rattle.model.proofs.Theorems.Order.{order-acyclic}
 
 -- the model after edits
@@ -323,11 +323,6 @@ dangling-12 = absent tt tt pair-acyclic
 abbrev All : List Row → Type 0
 All [] = Unit {0}
 All (r ∷ l) = Holds r × All l
-
--- one row and the rest
-infixr 5 _▸_
-abbrev _▸_ : {A B : Type 0} → A → B → A × B
-x ▸ y = (x, y)
 
 all-at : (l : List Row) → All l → (r : Row) → List·Memᴰ r l → Holds r
 all-at [] h r i = elim i [ ]
