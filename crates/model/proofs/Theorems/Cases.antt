@@ -25,7 +25,7 @@ use Rattle.model.specs.Walk.{gap, tags, fresh, walk, total, walkFrom}
 use Rattle.model.specs.Edit.{Edit, addOperation, addConstant, addComponent, addInput, removeComponent, renameComponent, setParameter, Answer, done, made, refused, check, addPlain, addOp, firstFree, freeTag, addUnder, addAny, addWire, swap, remove, rename, setAt, edit, apply}
 use Rattle.model.specs.Form.{Wire, Reach, here, along, Cyclic, Refuses, cyclic, absent, gapped, Placed, start, then, Order, Compiled, order, ordered, value, Number, worked, nothing, another}
 use Rattle.model.proofs.Laws.Reach.{placed-closed}
-use Rattle.model.proofs.Laws.Valid.{some-some, none-some, _▸_}
+use Rattle.model.proofs.Laws.Valid.{some-some, none-some}
 use Rattle.model.proofs.Theorems.Order.{order-acyclic}
 
 -- the model after edits
@@ -249,13 +249,17 @@ p12-order = record {
         then {o = a ∷ []} {a = b} (then {o = []} {a = a} start (λ i. elim i [ ]) (λ c w. elim w [ ]))
         (λ i. b-not-a (List·Memᴰ·eq-of-singleton i)) (λ c w. List·Memᴰ·head (wires c w))
 
-p12 : Compiled two b ordered (a ∷ b ∷ [])
+p12-compiled : Compiled two b ordered (a ∷ b ∷ [])
 unfolding two apply edit addPlain addOp check new valid find held distinct put cut overlong is
-p12 = order tt tt (record {
+p12-compiled = order tt tt (record {
   acyclic = order-acyclic p12-order;
   present = λ c x. both (λ c. ¬ (component two c ≡ none)) (λ e. none-some (sym e)) (λ e. none-some (sym e)) c (p12-order .all c (x .0)) (x .1);
   assigned = λ c x. both (λ c. ¬ List·Memᴰ none (inputs two c)) (λ i. elim i [ ]) unassigned c (p12-order .all c (x .0)) (x .1);
 }) p12-order
+
+p12 : Holds (compiles twice b (a ∷ b ∷ []) origin n6)
+unfolding two
+p12 = (p12-compiled, p12-number)
 
 -- an unassigned place: a alone is reached
 alone : Model
@@ -320,23 +324,24 @@ dangling-12 = absent tt tt pair-acyclic
 
 -- ---- the one claim
 
-abbrev All : List Row → Type 0
-All [] = Unit {0}
-All (r ∷ l) = Holds r × All l
+infixr 5 _▸_
+data All : List Row → Type 0 where
+  end : All []
+  _▸_ : {r : Row} {l : List Row} → Holds r → All l → All (r ∷ l)
 
 all-at : (l : List Row) → All l → (r : Row) → List·Memᴰ r l → Holds r
 all-at [] h r i = elim i [ ]
-all-at (q ∷ l) h r (List·Memᴰ·head e) = subst Holds (sym e) (h .0)
-all-at (q ∷ l) h r (List·Memᴰ·tail i) = all-at l (h .1) r i
+all-at (q ∷ l) (h ▸ hs) r (List·Memᴰ·head e) = subst Holds (sym e) h
+all-at (q ∷ l) (h ▸ hs) r (List·Memᴰ·tail i) = all-at l hs r i
 
 rows : All table
 unfolding table value compute toSphere toCoord toCoordSquared toTorus signedRoot rootOf minimumNumber maximumNumber add sub mul div neg lt isNan round sum size two alone pair
     find held distinct cut put each move gap tags fresh walk total walkFrom check addPlain addOp firstFree freeTag addUnder addAny addWire swap remove rename setAt edit apply new valid overlong is decimal
     parameterSet setValue tooNear nameFromMin nameFromMax
 rows =
-    refl ▸ refl ▸ refl ▸ refl ▸ refl ▸ refl ▸ refl ▸ refl ▸ refl ▸ refl ▸ p11 ▸ (p12, p12-number) ▸ refl ▸ refl
+    refl ▸ refl ▸ refl ▸ refl ▸ refl ▸ refl ▸ refl ▸ refl ▸ refl ▸ refl ▸ p11 ▸ p12 ▸ refl ▸ refl
     ▸ refl ▸ refl ▸ refl ▸ refl ▸ refl ▸ refl ▸ refl ▸ refl ▸ refl ▸ gap-13 ▸ dangling-12
-    ▸ refl ▸ refl ▸ refl ▸ refl ▸ refl ▸ refl ▸ refl ▸ tt
+    ▸ refl ▸ refl ▸ refl ▸ refl ▸ refl ▸ refl ▸ refl ▸ end
 
 -- every row of the table holds
 pub cases : (r : Row) → List·Memᴰ r table → Holds r
