@@ -22,7 +22,7 @@ use Rattle.component.specs.declared.model_component.Component.the-variants.{Con
 use Rattle.model.specs.Table.{find, held, distinct, cut, put, each, move}
 use Rattle.model.specs.Model.{Place, Model, new, component, list, inputs, valid}
 use Rattle.model.specs.Walk.{gap, tags, fresh, walk, total, walkFrom}
-use Rattle.model.specs.Edit.{Edit, addOperation, addConstant, addComponent, addInput, removeComponent, renameComponent, setParameter, Answer, done, made, refused, check, addPlain, addOp, firstFree, freeTag, addUnder, addAny, addWire, swap, remove, rename, setAt, edit, apply}
+use Rattle.model.specs.Edit.{Edit, addOperation, addConstant, addComponent, addInput, removeInput, removeComponent, renameComponent, setParameter, Answer, done, made, refused, check, addPlain, addOp, firstFree, freeTag, addUnder, addAny, addWire, removeWire, swap, remove, rename, setAt, edit, apply}
 use Rattle.model.specs.Form.{Wire, Reach, here, along, Cyclic, Refuses, cyclic, absent, gapped, Placed, start, then, Order, Compiled, order, ordered, value, Number, worked, nothing, another}
 use Rattle.model.proofs.Laws.Reach.{placed-closed}
 use Rattle.model.proofs.Laws.Valid.{some-some, none-some}
@@ -185,6 +185,8 @@ table =
     ∷ lists (offset ++ renameComponent b a1 ∷ []) b none
     ∷ lists (offset ++ renameComponent a a1 ∷ []) b (some (some a1 ∷ []))
     ∷ defaults (offset ++ renameComponent b a1 ∷ []) (some a1)
+    -- without a list of its own it acquires the leftover one of the new tag
+    ∷ lists (offset ++ removeComponent b ∷ renameComponent a b ∷ []) b (some (some b ∷ []))
     -- a gap is 13 and no 0; a tag without a component is 12
     ∷ refuses unwired a 13 a 0
     ∷ refuses dangling a 12 b 0
@@ -194,6 +196,10 @@ table =
     ∷ answers (addOperation a (Offset n1) none ∷ addOperation b (Offset n1) none ∷ []) (addInput a b 0) (refused 13 b 0)
     ∷ answers (addConstant a n1 ∷ addOperation b (Offset n1) none ∷ []) (addInput b a 0) done
     ∷ answers offset (addInput a b 0) (refused 12 a 0)
+    -- a count that is not the operation's is 2; an index equal to the list's length is 3
+    ∷ answers [] (addOperation a Add (some (b ∷ []))) (refused 2 a 0)
+    ∷ answers offset (removeInput b 0) done
+    ∷ answers offset (removeInput b 1) (refused 3 b 1)
     -- Remap keeps its old number where the new one lies nearer than 2 to the -52nd
     ∷ answers (addOperation a (Remap (fin false 1 (negsuc 51)) n1 n0 n1) none ∷ []) (setParameter a nameFromMax (Value n0)) done
     ∷ answers (addOperation a (Remap (fin false 1 (negsuc 52)) n1 n0 n1) none ∷ []) (setParameter a nameFromMax (Value n0)) (refused 5 a 0)
@@ -336,12 +342,12 @@ all-at (q ∷ l) (h ▸ hs) r (List·Memᴰ·tail i) = all-at l hs r i
 
 rows : All table
 unfolding table value compute toSphere toCoord toCoordSquared toTorus signedRoot rootOf minimumNumber maximumNumber add sub mul div neg lt isNan round sum size two alone pair
-    find held distinct cut put each move gap tags fresh walk total walkFrom check addPlain addOp firstFree freeTag addUnder addAny addWire swap remove rename setAt edit apply new valid overlong is decimal
+    find held distinct cut put each move gap tags fresh walk total walkFrom check addPlain addOp firstFree freeTag addUnder addAny addWire removeWire swap remove rename setAt edit apply new valid overlong is decimal
     parameterSet setValue tooNear nameFromMin nameFromMax
 rows =
     refl ▸ refl ▸ refl ▸ refl ▸ refl ▸ refl ▸ refl ▸ refl ▸ refl ▸ refl ▸ p11 ▸ p12 ▸ refl ▸ refl
-    ▸ refl ▸ refl ▸ refl ▸ refl ▸ refl ▸ refl ▸ refl ▸ refl ▸ refl ▸ gap-13 ▸ dangling-12
-    ▸ refl ▸ refl ▸ refl ▸ refl ▸ refl ▸ refl ▸ refl ▸ end
+    ▸ refl ▸ refl ▸ refl ▸ refl ▸ refl ▸ refl ▸ refl ▸ refl ▸ refl ▸ refl ▸ gap-13 ▸ dangling-12
+    ▸ refl ▸ refl ▸ refl ▸ refl ▸ refl ▸ refl ▸ refl ▸ refl ▸ refl ▸ refl ▸ end
 
 -- every row of the table holds
 pub cases : (r : Row) → List·Memᴰ r table → Holds r
