@@ -1,3 +1,6 @@
 -- `Bool`: tests as facts. `Table`: what a table holds after a change.
+-- Of the record: `Rows`: live rows. `Search`: a search by tag. `Changes`: tables changed in place. `Standing`: 7, part by part. `Passes`: 7 as the code judges it.
 pub mod Bool
 pub mod Table
+pub mod Rows
+pub mod Search
