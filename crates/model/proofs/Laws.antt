@@ -2,8 +2,9 @@
 pub mod Bool
 pub mod Table
 pub mod Valid
--- Of the record. `Rows`: live rows. `Search`: a search by tag. `Changes`: tables changed in place. `Standing`: 7, part by part.
+-- Of the record. `Rows`: live rows. `Search`: a search by tag. `Changes`: tables changed in place. `Standing`: 7, part by part. `Passes`: 7 as the code judges it.
 pub mod Rows
 pub mod Search
 pub mod Changes
 pub mod Standing
+pub mod Passes
