@@ -8,3 +8,4 @@ pub mod Search
 pub mod Changes
 pub mod Standing
 pub mod Passes
+pub mod Pairs
