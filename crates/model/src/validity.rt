@@ -97,3 +97,28 @@ fn components_distinct(m: Model) -> bool
     }
     true
 }
+
+// Whether no two input lists have one tag.
+fn lists_distinct(m: Model) -> bool
+    ensures { λ r. ⌜ r ≡ distinct (listsOf m) ⌝ }
+{
+    let n = lists_held(m);
+    let mut i: usize = 0;
+    let mut j: usize = 1;
+    while i < n {
+        if j < n {
+            let a = m.lists[i];
+            let b = m.lists[j];
+            let s = a.tag;
+            let t = b.tag;
+            if tag::same_tag(t, s) {
+                return false;
+            }
+            j += 1;
+        } else {
+            i += 1;
+            j = i + 1;
+        }
+    }
+    true
+}

@@ -3,11 +3,21 @@ use mathlib.Core.Path.{_≡_, refl, sym, _∙_, ap}
 use mathlib.Core.Bool.{Bool, true, false, not, _&&_, _||_, cond}
 use mathlib.Core.List.{List, [], _∷_}
 use mathlib.Core.Option.{Option, none, some}
-use Prim.Native.Nat.{ℕ, suc, _+_, _<_, _≤_}
+use Prim.Native.Nat.{ℕ, zero, suc, _+_, _<_, _≤_}
+use native.Mathlib.Numerals.{add-one}
+use native.Mathlib.Nat.{not-suc-le-zero, le-of-suc-le-suc}
 use lib.ListN.{drop, length, drop-of-length-le}
 use Rattle.tag.specs.Tags.{Tag, is}
 use Rattle.model.specs.Table.{Table, find, held, distinct}
 use Rattle.model.proofs.Laws.Search.{distinct-hit, distinct-miss, distinct-end}
+
+row-there : {A : Type 0} (xs : List A) (i : ℕ) → i < length xs → (x : A) × (drop i xs ≡ x ∷ drop (i + 1) xs)
+row-there {A} xs i h = rw add-one (go xs i h)
+  where
+    go : (xs : List A) (i : ℕ) → i < length xs → (x : A) × (drop i xs ≡ x ∷ drop (suc i) xs)
+    go [] i h = absurd (not-suc-le-zero h)
+    go (x ∷ xs) zero h = (x, refl)
+    go (x ∷ xs) (suc i) h = go xs i (le-of-suc-le-suc h)
 
 -- The rows ahead of i stand in no pair, nor does row i with one ahead of j.
 pub record Apart {A : Type 0} (r : Table A) (i j : ℕ) : Type 0 where
@@ -34,13 +44,15 @@ module _ {A : Type 0} (r : Table A) where
       unfolding held
       apart-pair h = sym (distinct-miss r i at (a .seen e at ∙ rw (next, ← q, h))) ∙ a .rest
 
-    -- no row is left for row i
-    pub apart-next : length r ≤ j → Apart r (i + 1) (i + 1 + 1)
-    unfolding held
-    apart-next h = record {
-      rest = sym (distinct-hit r i at (a .seen e at ∙ rw (drop-of-length-le r h))) ∙ a .rest;
-      seen = λ x p. refl;
-    }
+  -- no row is left for row i
+  pub apart-next : (i j : ℕ) → Apart r i j → i < length r → length r ≤ j → Apart r (i + 1) (i + 1 + 1)
+  unfolding held
+  apart-next i j a l h =
+      let e = row-there r i l in
+      record {
+        rest = sym (distinct-hit r i (e .1) (a .seen (e .0) (e .1) ∙ rw (drop-of-length-le r h))) ∙ a .rest;
+        seen = λ x p. refl;
+      }
 
   pub apart-end : (i j : ℕ) → Apart r i j → length r ≤ i → true ≡ distinct r
   apart-end i j a h = sym (distinct-end r i h) ∙ a .rest
