@@ -122,3 +122,42 @@ fn lists_distinct(m: Model) -> bool
     }
     true
 }
+
+// Whether every component's tag is within its size and every operation has a list of its count, which j looks for anew at each row i.
+fn components_sound(m: Model) -> bool
+    ensures { λ r. ⌜ r ≡ every (rows (entrySound (listsOf m)) (m .«component_count») (m .components)) ⌝ }
+{
+    let n = components_held(m);
+    let k = lists_held(m);
+    let mut i: usize = 0;
+    let mut j: usize = 0;
+    while i < n {
+        let e = m.components[i];
+        let t = e.tag;
+        if 32 < t.len {
+            return false;
+        }
+        let c = e.component;
+        let takes = component::model_component::input_count(c);
+        if takes == 0 {
+            i += 1;
+            j = 0;
+        } else {
+            if k <= j {
+                return false;
+            }
+            let l = m.lists[j];
+            let s = l.tag;
+            if tag::same_tag(s, t) {
+                if places_held(l) != takes {
+                    return false;
+                }
+                i += 1;
+                j = 0;
+            } else {
+                j += 1;
+            }
+        }
+    }
+    true
+}
