@@ -161,3 +161,48 @@ fn components_sound(m: Model) -> bool
     }
     true
 }
+
+// Whether there is no default, or one that names a component.
+fn default_sound(m: Model) -> bool
+    ensures { λ r. ⌜ r ≡ defaultSound (componentsOf m) (m .default) ⌝ }
+{
+    let d = m.default;
+    if d.assigned {
+        let t = d.tag;
+        if 32 < t.len {
+            return false;
+        }
+        let f = find_component(m, t);
+        if let Found::At(_) = f {
+            return true;
+        }
+        false
+    } else {
+        true
+    }
+}
+
+// Whether the model is one that refusal 7 lets pass.
+pub fn is_valid(m: Model) -> bool
+    ensures { λ r. ⌜ r ≡ passes m ⌝ }
+{
+    if 64 < m.component_count {
+        return false;
+    }
+    if 128 < m.list_count {
+        return false;
+    }
+    if !lists_sound(m) {
+        return false;
+    }
+    if !components_sound(m) {
+        return false;
+    }
+    if !components_distinct(m) {
+        return false;
+    }
+    if !lists_distinct(m) {
+        return false;
+    }
+    default_sound(m)
+}
