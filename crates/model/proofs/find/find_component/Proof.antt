@@ -8,7 +8,7 @@ use Rattle.tag.specs.View.{bytesOf}
 use Rattle.model.specs.declared.find.Found.{Found}
 use Rattle.model.specs.View.{componentsOf, componentOf}
 use Rattle.model.specs.Search.{position, Sought}
-use Rattle.model.proofs.Laws.Rows.{rows-next}
+use Rattle.model.proofs.Laws.Rows.{no-entry, rows-next}
 use Rattle.model.proofs.Laws.Search.{position-hit, position-miss, position-end, sought}
 use Rattle.model.proofs.find.find_component.Statement.{statement}
 use Rattle.model.proofs.find.find_component.Tie as tie
@@ -43,7 +43,7 @@ returns c =
     let l = c .before .before .before .before .before in
     let s = l .before .before in
     let a = s .args in
-    answers s _ (sym (position-hit (componentsOf (a .t1)) (l .loop .i) (rows-next componentOf (a .t1 .components) (a .t1 .«component_count») (l .loop .i) _ (omega arith)) (bytesOf (a .t)) _ (c .before .same-tag .ensures) (c .if1 .taken)) ∙ l .loop .inv .1)
+    answers s _ (sym (position-hit (componentsOf (a .t1)) (l .loop .i) (rows-next componentOf (a .t1 .components) (a .t1 .«component_count») (l .loop .i) no-entry (omega arith)) (bytesOf (a .t)) _ (c .before .same-tag .ensures) (c .if1 .taken)) ∙ l .loop .inv .1)
 
 add-i : tie.Need-add-i Inv-loop μ-loop
 add-i c = omega arith
@@ -56,7 +56,7 @@ loop-again c =
     let l = c .before .before .before .before .before in
     let a = l .before .before .args in (
       omega arith,
-      sym (position-miss (componentsOf (a .t1)) (l .loop .i) (rows-next componentOf (a .t1 .components) (a .t1 .«component_count») (l .loop .i) _ (omega arith)) (bytesOf (a .t)) _ (c .before .same-tag .ensures) (c .if1 .left)) ∙ l .loop .inv .1,
+      sym (position-miss (componentsOf (a .t1)) (l .loop .i) (rows-next componentOf (a .t1 .components) (a .t1 .«component_count») (l .loop .i) no-entry (omega arith)) (bytesOf (a .t)) _ (c .before .same-tag .ensures) (c .if1 .left)) ∙ l .loop .inv .1,
     )
 
 returns-2 : tie.Need-returns-2 Inv-loop μ-loop

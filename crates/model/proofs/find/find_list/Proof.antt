@@ -8,7 +8,7 @@ use Rattle.tag.specs.View.{bytesOf}
 use Rattle.model.specs.declared.find.Found.{Found}
 use Rattle.model.specs.View.{listsOf, listOf}
 use Rattle.model.specs.Search.{position, Sought}
-use Rattle.model.proofs.Laws.Rows.{rows-next}
+use Rattle.model.proofs.Laws.Rows.{no-list, rows-next}
 use Rattle.model.proofs.Laws.Search.{position-hit, position-miss, position-end, sought}
 use Rattle.model.proofs.find.find_list.Statement.{statement}
 use Rattle.model.proofs.find.find_list.Tie as tie
@@ -43,7 +43,7 @@ returns c =
     let l = c .before .before .before .before .before in
     let s = l .before .before in
     let a = s .args in
-    answers s _ (sym (position-hit (listsOf (a .t1)) (l .loop .i) (rows-next listOf (a .t1 .lists) (a .t1 .«list_count») (l .loop .i) _ (omega arith)) (bytesOf (a .t)) _ (c .before .same-tag .ensures) (c .if1 .taken)) ∙ l .loop .inv .1)
+    answers s _ (sym (position-hit (listsOf (a .t1)) (l .loop .i) (rows-next listOf (a .t1 .lists) (a .t1 .«list_count») (l .loop .i) no-list (omega arith)) (bytesOf (a .t)) _ (c .before .same-tag .ensures) (c .if1 .taken)) ∙ l .loop .inv .1)
 
 add-i : tie.Need-add-i Inv-loop μ-loop
 add-i c = omega arith
@@ -56,7 +56,7 @@ loop-again c =
     let l = c .before .before .before .before .before in
     let a = l .before .before .args in (
       omega arith,
-      sym (position-miss (listsOf (a .t1)) (l .loop .i) (rows-next listOf (a .t1 .lists) (a .t1 .«list_count») (l .loop .i) _ (omega arith)) (bytesOf (a .t)) _ (c .before .same-tag .ensures) (c .if1 .left)) ∙ l .loop .inv .1,
+      sym (position-miss (listsOf (a .t1)) (l .loop .i) (rows-next listOf (a .t1 .lists) (a .t1 .«list_count») (l .loop .i) no-list (omega arith)) (bytesOf (a .t)) _ (c .before .same-tag .ensures) (c .if1 .left)) ∙ l .loop .inv .1,
     )
 
 returns-2 : tie.Need-returns-2 Inv-loop μ-loop

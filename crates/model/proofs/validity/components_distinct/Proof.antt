@@ -3,13 +3,13 @@ use Prim.Native.Nat.{_+_, _*_, _≤_, _-_}
 use native.Mathlib.Omega.{arith}
 use borrow.Author.Needs.{needs}
 use Rattle.model.specs.View.{componentsOf, componentOf}
-use Rattle.model.proofs.Laws.Rows.{rows-next}
+use Rattle.model.proofs.Laws.Rows.{no-entry, rows-next}
 use Rattle.model.proofs.Laws.Pairs.{Apart, apart-start, apart-on, apart-pair, apart-next, apart-end}
 use Rattle.model.proofs.validity.components_distinct.Statement.{statement}
 use Rattle.model.proofs.validity.components_distinct.Tie as tie
 
 abbrev Inv-loop : tie.InvT-loop
-Inv-loop m n i₀ j₀ i j = (i ≤ n) × (j ≤ n + 1) × Apart (componentsOf m) i j
+Inv-loop m n i₀ j₀ i j = Apart (componentsOf m) i j × (i ≤ n) × (j ≤ n + 1)
 
 -- j starts anew at each i
 abbrev μ-loop : tie.MeasureT-loop
@@ -19,7 +19,7 @@ components-held-requires : tie.Need-components-held-requires Inv-loop μ-loop
 components-held-requires c κs = search needs
 
 loop-holds : tie.Need-loop-holds Inv-loop μ-loop
-loop-holds c = (omega arith, omega arith, apart-start (componentsOf (c .before .args .t1)))
+loop-holds c = (apart-start (componentsOf (c .before .args .t1)), omega arith, omega arith)
 
 mul-a : tie.Need-mul-a Inv-loop μ-loop
 mul-a c = omega arith
@@ -40,9 +40,9 @@ returns : tie.Need-returns Inv-loop μ-loop
 returns c =
     let l = c .before .before .before .before .before .before .before .before in
     let m = l .before .before .args .t1 in
-    let row-i = rows-next componentOf (m .components) (m .«component_count») (l .loop .i) _ (omega arith) in
-    let row-j = rows-next componentOf (m .components) (m .«component_count») (l .loop .j) _ (omega arith) in
-    apart-pair (componentsOf m) (l .loop .i) (l .loop .j) (l .loop .inv .2) _ row-i _ row-j _ (c .before .same-tag .ensures) (c .if2 .taken)
+    let row-i = rows-next componentOf (m .components) (m .«component_count») (l .loop .i) no-entry (omega arith) in
+    let row-j = rows-next componentOf (m .components) (m .«component_count») (l .loop .j) no-entry (omega arith) in
+    apart-pair (componentsOf m) (l .loop .i) (l .loop .j) (l .loop .inv .0) _ row-i _ row-j _ (c .before .same-tag .ensures) (c .if2 .taken)
 
 add-j : tie.Need-add-j Inv-loop μ-loop
 add-j c = omega arith
@@ -54,11 +54,11 @@ loop-again : tie.Need-loop-again Inv-loop μ-loop
 loop-again c =
     let l = c .before .before .before .before .before .before .before .before in
     let m = l .before .before .args .t1 in
-    let row-i = rows-next componentOf (m .components) (m .«component_count») (l .loop .i) _ (omega arith) in
-    let row-j = rows-next componentOf (m .components) (m .«component_count») (l .loop .j) _ (omega arith) in (
+    let row-i = rows-next componentOf (m .components) (m .«component_count») (l .loop .i) no-entry (omega arith) in
+    let row-j = rows-next componentOf (m .components) (m .«component_count») (l .loop .j) no-entry (omega arith) in (
+      apart-on (componentsOf m) (l .loop .i) (l .loop .j) (l .loop .inv .0) _ row-i _ row-j _ (c .before .same-tag .ensures) (c .if2 .left),
       omega arith,
       omega arith,
-      apart-on (componentsOf m) (l .loop .i) (l .loop .j) (l .loop .inv .2) _ row-i _ row-j _ (c .before .same-tag .ensures) (c .if2 .left),
     )
 
 add-i : tie.Need-add-i Inv-loop μ-loop
@@ -74,12 +74,12 @@ loop-again-2 : tie.Need-loop-again-2 Inv-loop μ-loop
 loop-again-2 c =
     let l = c .before .before in
     let m = l .before .before .args .t1 in
-    (omega arith, omega arith, apart-next (componentsOf m) (l .loop .i) (l .loop .j) (l .loop .inv .2) (omega arith) (omega arith))
+    (apart-next (componentsOf m) (l .loop .i) (l .loop .j) (l .loop .inv .0) (omega arith) (omega arith), omega arith, omega arith)
 
 returns-2 : tie.Need-returns-2 Inv-loop μ-loop
 returns-2 c =
     let l = c .before in
-    apart-end (componentsOf (l .before .before .args .t1)) (l .loop .i) (l .loop .j) (l .loop .inv .2) (omega arith)
+    apart-end (componentsOf (l .before .before .args .t1)) (l .loop .i) (l .loop .j) (l .loop .inv .0) (omega arith)
 
 pub components-distinct-spec : {M : Type 1} → statement M
 components-distinct-spec =
