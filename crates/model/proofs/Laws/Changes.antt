@@ -12,7 +12,7 @@ use lib.ListN.{take, length, getD, set, length-set, length-take}
 use lib.Seq.{getD-set-same, getD-set-other, getD-take}
 use borrow.Author.Tests.{eqb-true, eqb-false}
 use Rattle.tag.specs.Tags.{Tag}
-use Rattle.tag.proofs.Laws.Same.{same?}
+use Rattle.tag.proofs.Laws.Is.{same?}
 use Rattle.model.specs.Table.{Table, find, cut, put, each, distinct, moved, move}
 use Rattle.model.proofs.Laws.Table.{find-cut-same, find-cut-other, find-put-same, find-put-other, find-each}
 use Rattle.model.proofs.Laws.Valid.{some-some, none-some, find-head, find-tail, distinct-head, distinct-tail, distinct-cons, each-distinct}

@@ -10,8 +10,7 @@ use native.Mathlib.Nat.{le-antisymm}
 use lib.Dec.{T, leb→le, le→leb}
 use lib.ListN.{length}
 use Rattle.tag.specs.Tags.{Tag, is, overlong}
-use Rattle.tag.proofs.Laws.Is.{is-refl, is-true}
-use Rattle.tag.proofs.Laws.Same.{is-false}
+use Rattle.tag.proofs.Laws.Is.{is-refl, is-true, is-false}
 use Rattle.component.specs.Value.{inputCount}
 use Rattle.component.specs.declared.model_component.Component.{Component}
 use Rattle.model.specs.Table.{all, Table, find, held, distinct, cut, put, each}
