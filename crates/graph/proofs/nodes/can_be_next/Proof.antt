@@ -1,0 +1,23 @@
+use native.Mathlib.Omega.{arith}
+use borrow.Author.Needs.{needs}
+use borrow.Author.Tests.{eq-eqb, ne-eqb}
+use Rattle.graph.proofs.nodes.can_be_next.Statement.{statement}
+use Rattle.graph.proofs.nodes.can_be_next.Tie as tie
+use Rattle.graph.proofs.nodes.can_be_next.Reads as reads
+use Rattle.graph.proofs.nodes.can_be_next.Lts as lts
+use Rattle.graph.proofs.nodes.ready.Reads as ready-reads
+
+element-copy-out-if1 : tie.Need-element-copy-out-if1
+element-copy-out-if1 c = search needs
+
+returns : tie.Need-returns
+returns c = simp (eq-eqb _ _ (c .if1 .taken))
+
+ready-requires : tie.Need-ready-requires
+ready-requires c κs = search needs
+
+returns-2 : tie.Need-returns-2
+returns-2 c = simp (ne-eqb _ _ (c .before .if1 .left)) (c .ready .ensures)
+
+pub can-be-next-spec : {M : Type 1} → statement M
+can-be-next-spec = tie.close (tie.spec element-copy-out-if1 returns ready-requires returns-2)

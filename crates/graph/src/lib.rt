@@ -1,0 +1,2 @@
+// The order of a form, and its number at a point.
+mod nodes;
