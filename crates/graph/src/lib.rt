@@ -1,3 +1,4 @@
 // The order of a form, and its number at a point.
+mod least;
 mod nodes;
 mod wiring;

@@ -214,6 +214,9 @@ module _ (m : Record) (pass : passes m ≡ true) (long : length (m .lists) ≡ 1
   unfolding view
   inputs-at a l e = ap (λ (o : Option (List Place)). Option·getD o []) (list-row m a l e .entry)
 
+  pub places-short : (l : ℕ) → l < count → length (rows placeOf (getD (m .lists) l no-list .count) (getD (m .lists) l no-list .places)) ≤ 3
+  places-short l h = subst (λ (z : List Place). length z ≤ 3) (inputs-at (tagOf l) l (listed-at l h)) (inputs-short (tagOf l))
+
   pub drawn : (n : ℕ) → n ≡ count → (w : List ℕ) → Wired found n w → Drawn m w
   drawn n e w g = record { standing = s; short = inputs-short; wires = λ x nx p hp. go x nx p hp (position (nameOf m x) 0 (listsOf m)) refl }
     where
