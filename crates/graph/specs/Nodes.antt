@@ -104,3 +104,9 @@ pub record Ordered (w : List ℕ) (t : ℕ) (at : List ℕ) (n : ℕ) (done : Bo
   pub order : done ≡ true → IsOrder (inputsOf w) t (take n at)
   pub cyclic : done ≡ false → Circular (inputsOf w) t
   pub fits : n ≤ 192
+  pub at-length : length at ≡ 192
+
+-- the first k entries
+pub record Copied (k : ℕ) (xs r : List ℕ) : Type 0 where
+  pub r-length : length r ≡ k
+  pub same : take k r ≡ take k xs

@@ -26,7 +26,7 @@ next-ready-requires : tie.Need-next-ready-requires Inv-loop μ-loop
 next-ready-requires c κs = c .before .before .before .pre .1 .listed
 
 returns : tie.Need-returns Inv-loop μ-loop
-returns c = record { order = λ e. absurd (false≢true e); cyclic = λ e. going-stuck (c .before .before .before .before .before .args .w .now) (c .before .before .before .before .before .args .t) (c .before .before .before .before .before .pre .0) (c .before .before .before .before .before .pre .1) (c .before .before .before .before .loop .inv) (c .before .next-ready .ensures) (omega (arith, c .if1 .taken)) (c .before .before .before .loop-test .taken); fits = omega arith }
+returns c = record { order = λ e. absurd (false≢true e); cyclic = λ e. going-stuck (c .before .before .before .before .before .args .w .now) (c .before .before .before .before .before .args .t) (c .before .before .before .before .before .pre .0) (c .before .before .before .before .before .pre .1) (c .before .before .before .before .loop .inv) (c .before .next-ready .ensures) (omega (arith, c .if1 .taken)) (c .before .before .before .loop-test .taken); fits = omega arith; at-length = c .before .before .before .before .loop .inv .at-length }
 
 mul-at : tie.Need-mul-at Inv-loop μ-loop
 mul-at c = let h : c .before .before .before .before .loop .k < 192 = going-room (c .before .before .before .before .before .args .w .now) (c .before .before .before .before .before .args .t) (c .before .before .before .before .before .pre .0) (c .before .before .before .before .before .pre .1) (c .before .before .before .before .loop .inv) (c .before .next-ready .ensures) (omega (arith, c .before .next-ready .ensures .within, c .if1 .left)) in omega arith
@@ -47,7 +47,7 @@ loop-again : tie.Need-loop-again Inv-loop μ-loop
 loop-again c = going-more (c .before .before .before .before .before .args .w .now) (c .before .before .before .before .before .args .t) (c .before .before .before .before .before .pre .0) (c .before .before .before .before .before .pre .1) (c .before .before .before .before .loop .inv) (c .before .next-ready .ensures) (omega (arith, c .before .next-ready .ensures .within, c .if1 .left))
 
 returns-2 : tie.Need-returns-2 Inv-loop μ-loop
-returns-2 c = record { order = λ e. going-done (c .before .before .args .w .now) (c .before .before .args .t) (c .before .before .pre .0) (c .before .loop .at) (c .before .loop .placed) (c .before .loop .k) (c .before .loop .inv) (c .loop-test .left); cyclic = λ e. absurd (true≢false e); fits = c .before .loop .inv .n-le }
+returns-2 c = record { order = λ e. going-done (c .before .before .args .w .now) (c .before .before .args .t) (c .before .before .pre .0) (c .before .loop .at) (c .before .loop .placed) (c .before .loop .k) (c .before .loop .inv) (c .loop-test .left); cyclic = λ e. absurd (true≢false e); fits = c .before .loop .inv .n-le; at-length = c .before .loop .inv .at-length }
 
 pub lay-spec : {M : Type 1} → statement M
 lay-spec =
