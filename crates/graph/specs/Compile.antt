@@ -1,5 +1,5 @@
 -- Document 01's compile as a promise about the record that it answers with. Definitions only.
-use Prim.Native.Nat.{ℕ, _+_, _*_, _<_}
+use Prim.Native.Nat.{ℕ, _+_, _*_, _≤_, _<_}
 use mathlib.Core.Path.{_≡_}
 use mathlib.Core.Bool.{true, false}
 use mathlib.Core.List.{List, [], map, List·Memᴰ}
@@ -40,8 +40,9 @@ positionsOf r = take (countOf (r .answer)) (r .order)
 pub record CompilesAs (m : Record) (t : Tag) (r : CompiledGraph) : Type 0 where
   pub fitting : passes m ≡ true → Compiled (view m) t (endingOf (r .answer) (bytesOf (r .tag)) (r .index)) (map (tagAt m) (positionsOf r))
   pub unfit : passes m ≡ false → (r .answer ≡ Refused InvalidModel) × (bytesOf (r .tag) ≡ empty) × (r .index ≡ 0)
-  -- the count is the number of positions, and each is that of a component
+  -- the count is the number of positions, 64 at most, and each is that of a component
   pub counted : length (positionsOf r) ≡ countOf (r .answer)
+  pub few : countOf (r .answer) ≤ 64
   pub held : (i : ℕ) → List·Memᴰ i (positionsOf r) → i < length (componentsOf m)
   -- an order carries no tag and no index
   pub plain : (n : ℕ) → r .answer ≡ Ordered n → (bytesOf (r .tag) ≡ empty) × (r .index ≡ 0)

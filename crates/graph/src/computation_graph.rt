@@ -40,7 +40,13 @@ fn refused(e: ModelError, t: Tag, i: usize) -> CompiledGraph
     ensures { λ r. ⌜ Stopped e t i r ⌝ }
 {
     let a = Compiling::Refused(e);
-    CompiledGraph { answer: a, tag: t, index: i, order: [0usize; 64], inputs: [64usize; 192] }
+    CompiledGraph {
+        answer: a,
+        tag: t,
+        index: i,
+        order: [0usize; 64],
+        inputs: [64usize; 192],
+    }
 }
 
 // The first 64 entries of an order.
@@ -102,7 +108,13 @@ fn ordered(m: Model, t: Tag) -> CompiledGraph
     let at = o.at;
     let c = Compiling::Ordered(o.n);
     let e = tag::empty_tag();
-    CompiledGraph { answer: c, tag: e, index: 0, order: positions(&at), inputs: component_inputs(&w) }
+    CompiledGraph {
+        answer: c,
+        tag: e,
+        index: 0,
+        order: positions(&at),
+        inputs: component_inputs(&w),
+    }
 }
 
 // The order in which the target's components are computed, or why there is none: 7, 1, 14, 12, 13.

@@ -24,7 +24,11 @@ fn none_yet() -> Best
     ensures { λ r. ⌜ r .some ≡ false ⌝ }
 {
     let t = tag::empty_tag();
-    Best { some: false, tag: t, index: 0 }
+    Best {
+        some: false,
+        tag: t,
+        index: 0,
+    }
 }
 
 // The better of the best so far and t.
@@ -32,11 +36,19 @@ fn take_in(b: Best, t: Tag, i: usize) -> Best
     ensures { λ r. ⌜ r ≡ takeIn b t i ⌝ }
 {
     if !b.some {
-        return Best { some: true, tag: t, index: i };
+        return Best {
+            some: true,
+            tag: t,
+            index: i,
+        };
     }
     let u = b.tag;
     if comes_before(t, u) {
-        return Best { some: true, tag: t, index: i };
+        return Best {
+            some: true,
+            tag: t,
+            index: i,
+        };
     }
     b
 }
@@ -107,7 +119,14 @@ pub fn least_gap(m: Model, found: &[usize; 512], seen: &[u8; 192]) -> Best
         let e = m.lists[l];
         let t = e.tag;
         let x = found[l * 4];
-        b = gap_turn(b, t, found[l * 4 + 1], found[l * 4 + 2], found[l * 4 + 3], seen[x]);
+        b = gap_turn(
+            b,
+            t,
+            found[l * 4 + 1],
+            found[l * 4 + 2],
+            found[l * 4 + 3],
+            seen[x],
+        );
         l += 1;
     }
     b

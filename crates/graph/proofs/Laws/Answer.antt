@@ -51,20 +51,19 @@ pub unfit : (m : Record) (t : Tag) (u : Label) (r : CompiledGraph) → passes m 
 unfit m t u r e f s = record {
   fitting = λ p. absurd (true≢false (sym p ∙ e));
   unfit = λ q. (s .answer, ap bytesOf (s .tag) ∙ f, s .index);
-  counted = none-counted;
+  counted = subst (λ (z : Compiling). length (take (countOf z) (r .order)) ≡ countOf z) (sym (s .answer)) refl;
+  few = subst (λ (z : Compiling). countOf z ≤ 64) (sym (s .answer)) (omega arith);
   held = λ i h. absurd (List·Memᴰ·not-nil (subst (λ (z : Compiling). List·Memᴰ i (take (countOf z) (r .order))) (s .answer) h));
   plain = λ n q. absurd (let z : _≡_ {A = ℕ} 0 1 = cc (s .answer) in let y : ⊥ = omega arith in y);
   wired = λ i p h. absurd (List·Memᴰ·not-nil (subst (λ (z : Compiling). List·Memᴰ i (take (countOf z) (r .order))) (s .answer) h));
 }
-  where
-    none-counted : length (positionsOf r) ≡ countOf (r .answer)
-    none-counted = subst (λ (z : Compiling). length (take (countOf z) (r .order)) ≡ countOf z) (sym (s .answer)) refl
 
 pub stops : (m : Record) (t : Tag) (e : ModelError) (u : Label) (i : ℕ) (r : CompiledGraph) → passes m ≡ true → Refuses (view m) t (numberOf e) (bytesOf u) i → Stopped e u i r → CompilesAs m t r
 stops m t e u i r p f s = record {
   fitting = λ q. says;
   unfit = λ q. absurd (true≢false (sym p ∙ q));
   counted = subst (λ (z : Compiling). length (take (countOf z) (r .order)) ≡ countOf z) (sym (s .answer)) refl;
+  few = subst (λ (z : Compiling). countOf z ≤ 64) (sym (s .answer)) (omega arith);
   held = λ i h. absurd (List·Memᴰ·not-nil (subst (λ (z : Compiling). List·Memᴰ i (take (countOf z) (r .order))) (s .answer) h));
   plain = λ n q. absurd (let z : _≡_ {A = ℕ} 0 1 = cc (s .answer) in let y : ⊥ = omega arith in y);
   wired = λ i p h. absurd (List·Memᴰ·not-nil (subst (λ (z : Compiling). List·Memᴰ i (take (countOf z) (r .order))) (s .answer) h));
@@ -192,7 +191,7 @@ module _ (m : Record) (pass : passes m ≡ true) (t : Tag) (size : overlong t �
           go {b} (along {a = c} p v) h =
               let k = kept c p (some b) v in
               let (i, lt, e) = names-want (inputs (view m) c) v in
-              show b c k (suc i) (omega (arith, inputs-short m pass longs found r c)) (ap (λ (z : List Place). placeWant z i) (sym (inputs-at m pass longs found r c (k .at) (k .stands))) ∙ e) h
+              show b c k (suc i) (omega (arith, inputs-short m pass c)) (ap (λ (z : List Place). placeWant z i) (sym (inputs-at m pass longs found r c (k .at) (k .stands))) ∙ e) h
 
       -- ---- 13
 
@@ -281,6 +280,7 @@ module _ (m : Record) (pass : passes m ≡ true) (t : Tag) (size : overlong t �
                 fitting = λ q. order sound short form (subst (λ (l : List ℕ). Order (view m) t (map (tagAt m) l)) (sym same) (subst (Order (view m) t) (sym (map-same xs (λ x i. i))) (order-up d t small (λ a q. omega (arith, component-node a q)) xs o)));
                 unfit = λ q. absurd (true≢false (sym pass ∙ q));
                 counted = length-take-le k ps (omega (arith, copied .r-length, count));
+                few = count;
                 held = λ x i. entry-held x (subst (λ (l : List ℕ). x ∈ l) same i);
                 plain = λ j q. (plain, refl);
                 wired = λ x p i hp. let j : x ∈ xs = subst (λ (l : List ℕ). x ∈ l) same i in

@@ -159,6 +159,13 @@ module _ (found w : List ℕ) (n l : ℕ) (o : Owned found n) (g : Wired found l
 
 -- ---- what the arrays say of the record
 
+pub inputs-short : (m : Record) → passes m ≡ true → (a : Tag) → length (inputs (view m) a) ≤ 3
+inputs-short m pass a = go (list (view m) a) refl
+  where
+    go : (o : Option (List Place)) → list (view m) a ≡ o → length (Option·getD o []) ≤ 3
+    go none e = omega arith
+    go (some l) e = leb-true (length l) 3 (T→true _ (good-three a l (good (view m) (passes-valid m pass) .places a l e)))
+
 module _ (m : Record) (pass : passes m ≡ true) (long : length (m .lists) ≡ 128) (found : List ℕ) (r : Resolved no-list m found) where
   s : Standing m
   s = standing m pass
@@ -203,22 +210,15 @@ module _ (m : Record) (pass : passes m ≡ true) (long : length (m .lists) ≡ 1
       same : (l k : ℕ) → l < count → k < count → nodeOf m (tagOf l) ≡ nodeOf m (tagOf k) → l ≡ k
       same l k h j q = rows-apart (listOf no-list) (listsOf m) l k (s .once-lists) (live l h) (live k j) (row-tag l h ∙ sym (named l h) ∙ ap (nameOf m) q ∙ named k j ∙ sym (row-tag k j))
 
-  pub inputs-short : (a : Tag) → length (inputs (view m) a) ≤ 3
-  inputs-short a = go (list (view m) a) refl
-    where
-      go : (o : Option (List Place)) → list (view m) a ≡ o → length (Option·getD o []) ≤ 3
-      go none e = omega arith
-      go (some l) e = leb-true (length l) 3 (T→true _ (good-three a l (good (view m) (passes-valid m pass) .places a l e)))
-
   pub inputs-at : (a : Tag) (l : ℕ) → position a 0 (listsOf m) ≡ At l → inputs (view m) a ≡ rows placeOf (getD (m .lists) l no-list .count) (getD (m .lists) l no-list .places)
   unfolding view
   inputs-at a l e = ap (λ (o : Option (List Place)). Option·getD o []) (list-row m a l e .entry)
 
   pub places-short : (l : ℕ) → l < count → length (rows placeOf (getD (m .lists) l no-list .count) (getD (m .lists) l no-list .places)) ≤ 3
-  places-short l h = subst (λ (z : List Place). length z ≤ 3) (inputs-at (tagOf l) l (listed-at l h)) (inputs-short (tagOf l))
+  places-short l h = subst (λ (z : List Place). length z ≤ 3) (inputs-at (tagOf l) l (listed-at l h)) (inputs-short m pass (tagOf l))
 
   pub drawn : (n : ℕ) → n ≡ count → (w : List ℕ) → Wired found n w → Drawn m w
-  drawn n e w g = record { standing = s; short = inputs-short; wires = λ x nx p hp. go x nx p hp (position (nameOf m x) 0 (listsOf m)) refl }
+  drawn n e w g = record { standing = s; short = inputs-short m pass; wires = λ x nx p hp. go x nx p hp (position (nameOf m x) 0 (listsOf m)) refl }
     where
       go : (x : ℕ) → Node m x → (p : ℕ) → p < 3 → (f : Found) → position (nameOf m x) 0 (listsOf m) ≡ f → getD w (x * 3 + p) 0 ≡ settled m (placeWant (inputs (view m) (nameOf m x)) p)
       go x nx p hp (At l) q =

@@ -43,10 +43,13 @@ take-least {S} R b t i g grows new only-these = go (b .some) refl (before (bytes
     go : (u : Bool) → b .some ≡ u → (v : Bool) → before (bytesOf t) (bytesOf (b .tag)) ≡ v → LeastOf R (cond u (cond v (only t i) b) (only t i))
     go true e true f = record {
       found = λ z. new;
-      least = λ a k h. (refl, ⊎-elim
-        (λ s. ahead a (bytesOf t) (λ q. true≢false (sym (before-trans a (bytesOf t) (bytesOf (b .tag)) q f) ∙ g .least a k s .1)))
-        (λ q. ap (λ (z : Tag). before z (bytesOf t)) q ∙ before-irrefl (bytesOf t))
-        (only-these a k h));
+      least = λ a k h. (
+        refl,
+        ⊎-elim
+            (λ s. ahead a (bytesOf t) (λ q. true≢false (sym (before-trans a (bytesOf t) (bytesOf (b .tag)) q f) ∙ g .least a k s .1)))
+            (λ q. ap (λ (z : Tag). before z (bytesOf t)) q ∙ before-irrefl (bytesOf t))
+            (only-these a k h),
+      );
     }
     go true e false f = record {
       found = λ z. grows _ _ (g .found z);
@@ -121,8 +124,8 @@ module _ (m : Record) (found seen : List ℕ) (within : (a : Tag) → nodeOf m a
             let ge : 64 ≤ v = ltb-false _ _ ey in
             let e = own _ refl le in
             take-least (AbsentShown no-list m found seen (j + 1)) b (s .tag) 0 g old
-              (record { slot = j; below = omega arith; marked = eqb-true _ _ ex; names = e; absent = omega (arith, number (bytesOf (s .tag)) e); index = refl })
-              (λ a k h. ⊎-elim (λ x. inl x) (λ x. inr (same a (h-names x) e)) (split a k h))
+            (record { slot = j; below = omega arith; marked = eqb-true _ _ ex; names = e; absent = omega (arith, number (bytesOf (s .tag)) e); index = refl })
+            (λ a k h. ⊎-elim (λ x. inl x) (λ x. inr (same a (h-names x) e)) (split a k h))
           where
             h-names : {a : Tag} → Here a → wantOf (getD (m .lists) (j / 4) no-list) (j % 4) ≡ look a
             h-names x = x .1

@@ -74,8 +74,8 @@ module _ {m : Record} {w : List ℕ} (d : Drawn m w) where
   down i j ni k =
       let (h, which) = entry-cases w i j k in
       ⊎-elim (λ e. let z : i * 3 ≡ i * 3 + 0 = omega arith in entry-down i j 0 ni (omega arith) h (e ∙ ap (λ (y : ℕ). getD w y 0) z))
-        (⊎-elim (λ e. entry-down i j 1 ni (omega arith) h e) (λ e. entry-down i j 2 ni (omega arith) h e))
-        which
+      (⊎-elim (λ e. entry-down i j 1 ni (omega arith) h e) (λ e. entry-down i j 2 ni (omega arith) h e))
+      which
 
   entry-in : (i p : ℕ) → p < 3 → getD w (i * 3 + p) 0 < 192 → getD w (i * 3 + p) 0 ∈ inputsOf w i
   entry-in i zero hp h = let z : i * 3 + 0 ≡ i * 3 = omega arith in subst (λ (y : ℕ). getD w y 0 ∈ inputsOf w i) (sym z) (entry-0 w i (subst (λ (y : ℕ). getD w y 0 < 192) z h))

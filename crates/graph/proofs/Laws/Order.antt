@@ -80,7 +80,7 @@ module _ {N : Type 0} (ins : N → List N) where
 -- ---- lists laid one at a time
 
 -- a cut of a list with one more at its end: the cut is in front of the last, or it is a cut of the list
-snoc-cut : {N : Type 0} (xs : List N) (z : N) (ahead : List N) (a : N) (rest : List N) → xs ++ (z ∷ []) ≡ ahead ++ (a ∷ rest)
+pub snoc-cut : {N : Type 0} (xs : List N) (z : N) (ahead : List N) (a : N) (rest : List N) → xs ++ (z ∷ []) ≡ ahead ++ (a ∷ rest)
     → ((ahead ≡ xs) × (a ≡ z)) ⊎ ((r : List N) × (xs ≡ ahead ++ (a ∷ r)))
 snoc-cut [] z [] a rest e = inl (refl, cc)
 snoc-cut [] z (y ∷ []) a rest e = let q : (a ∷ rest) ≡ [] = cc in absurd (cons≢nil q)

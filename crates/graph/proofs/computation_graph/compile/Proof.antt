@@ -1,3 +1,4 @@
+-- `graph::computation_graph::compile` meets its contract: `Laws/Answer.antt`. Assumes nothing.
 use native.Mathlib.Omega.{arith}
 use borrow.Author.Needs.{needs}
 use mathlib.Core.Path.{_≡_, sym, ap, subst, _∙_}
@@ -13,13 +14,6 @@ use Rattle.graph.specs.Compile.{CompilesAs}
 use Rattle.graph.proofs.Laws.Answer.{unfit, stops, says-long}
 use Rattle.graph.proofs.computation_graph.compile.Statement.{statement}
 use Rattle.graph.proofs.computation_graph.compile.Tie as tie
-use Rattle.graph.proofs.computation_graph.compile.Reads as reads
-use Rattle.graph.proofs.computation_graph.compile.Lts as lts
-use Rattle.graph.proofs.computation_graph.ordered.Reads as ordered-reads
-use Rattle.graph.proofs.computation_graph.refused.Reads as refused-reads
-use Rattle.model.proofs.validity.is_valid.Reads as is-valid-reads
-use Rattle.tag.proofs.empty_tag.Reads as empty-tag-reads
-use Rattle.tag.proofs.tag_of.Reads as tag-of-reads
 
 fits : (c : tie.Else1) → passes (c .before .before .before .before .args .m) ≡ true
 fits c = sym (c .before .is-valid .ensures) ∙ not-false (c .before .is-valid .result) (c .if1 .left)

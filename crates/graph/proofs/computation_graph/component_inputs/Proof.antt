@@ -1,3 +1,4 @@
+-- `graph::computation_graph::component_inputs` meets its contract. Assumes nothing.
 use native.Mathlib.Omega.{arith}
 use borrow.Author.Needs.{needs}
 use Prim.Native.Nat.{ℕ, _+_, _≤_, _-_}
@@ -7,8 +8,6 @@ use Rattle.graph.specs.Nodes.{Copied}
 use Rattle.tag.proofs.Laws.View.{byte-stored}
 use Rattle.graph.proofs.computation_graph.component_inputs.Statement.{statement}
 use Rattle.graph.proofs.computation_graph.component_inputs.Tie as tie
-use Rattle.graph.proofs.computation_graph.component_inputs.Reads as reads
-use Rattle.graph.proofs.computation_graph.component_inputs.Lts as lts
 
 abbrev Inv-loop : tie.InvT-loop
 Inv-loop w o₀ i₀ o i = (i ≤ 192) × (length o ≡ 192) × (take i o ≡ take i w)

@@ -1,3 +1,4 @@
+-- `graph::computation_graph::ordered` meets its contract: `Laws/Answer.antt`, `Laws/Drawing.antt`. Assumes nothing.
 use native.Mathlib.Omega.{arith}
 use borrow.Author.Needs.{needs}
 use Prim.Native.Nat.{ℕ, _≤_, _<_, min}
@@ -12,20 +13,6 @@ use Rattle.graph.proofs.Laws.Drawing.{owned}
 use Rattle.graph.proofs.Laws.Answer.{stops, says-unknown, says-cyclic, says-absent, says-gapped, says-ordered}
 use Rattle.graph.proofs.computation_graph.ordered.Statement.{statement}
 use Rattle.graph.proofs.computation_graph.ordered.Tie as tie
-use Rattle.graph.proofs.computation_graph.ordered.Reads as reads
-use Rattle.graph.proofs.computation_graph.ordered.Lts as lts
-use Rattle.graph.proofs.computation_graph.component_inputs.Reads as component-inputs-reads
-use Rattle.graph.proofs.computation_graph.positions.Reads as positions-reads
-use Rattle.graph.proofs.computation_graph.refused.Reads as refused-reads
-use Rattle.graph.proofs.least.least_absent.Reads as least-absent-reads
-use Rattle.graph.proofs.least.least_gap.Reads as least-gap-reads
-use Rattle.graph.proofs.nodes.lay.Reads as lay-reads
-use Rattle.graph.proofs.nodes.reach.Reads as reach-reads
-use Rattle.graph.proofs.wiring.node_of.Reads as node-of-reads
-use Rattle.graph.proofs.wiring.resolve.Reads as resolve-reads
-use Rattle.graph.proofs.wiring.wires.Reads as wires-reads
-use Rattle.tag.proofs.at_most.Reads as at-most-reads
-use Rattle.tag.proofs.empty_tag.Reads as empty-tag-reads
 
 longs : (s : tie.Start) → length (s .args .m .lists) ≡ 128
 longs s = simp length-map at (s .good .0 .1 .1 .1 .1 .0 .1 .0 .1)

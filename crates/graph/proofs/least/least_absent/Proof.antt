@@ -1,3 +1,4 @@
+-- `graph::least::least_absent` meets its contract: `Laws/Least.antt`, `Laws/Node.antt`. Assumes nothing.
 use native.Mathlib.Omega.{arith}
 use borrow.Author.Needs.{needs}
 use Prim.Native.Nat.{_+_, _*_, _/_, _≤_, _<_, _-_, min}
@@ -11,12 +12,6 @@ use Rattle.graph.proofs.Laws.Node.{node-within}
 use Rattle.graph.proofs.Laws.Least.{absent-start, absent-more}
 use Rattle.graph.proofs.least.least_absent.Statement.{statement}
 use Rattle.graph.proofs.least.least_absent.Tie as tie
-use Rattle.graph.proofs.least.least_absent.Reads as reads
-use Rattle.graph.proofs.least.least_absent.Lts as lts
-use Rattle.graph.proofs.least.absent_turn.Reads as absent-turn-reads
-use Rattle.graph.proofs.least.none_yet.Reads as none-yet-reads
-use Rattle.graph.proofs.wiring.slot_at.Reads as slot-at-reads
-use Rattle.tag.proofs.at_most.Reads as at-most-reads
 
 abbrev Inv-loop : tie.InvT-loop
 Inv-loop found seen m n b₀ j₀ b j = (n ≡ min (m .«list_count») 128 * 4) × (j ≤ n) × LeastOf (AbsentShown no-list m found seen j) b

@@ -1,3 +1,4 @@
+-- `graph::least::least_gap` meets its contract: `Laws/Drawing.antt`, `Laws/Least.antt`, `Laws/Node.antt`. Assumes nothing.
 use native.Mathlib.Omega.{arith}
 use borrow.Author.Needs.{needs}
 use Prim.Native.Nat.{_+_, _*_, _≤_, _<_, _-_, min}
@@ -13,11 +14,6 @@ use Rattle.graph.proofs.Laws.Drawing.{place, places-short}
 use Rattle.graph.proofs.Laws.Least.{gap-start, gap-more}
 use Rattle.graph.proofs.least.least_gap.Statement.{statement}
 use Rattle.graph.proofs.least.least_gap.Tie as tie
-use Rattle.graph.proofs.least.least_gap.Reads as reads
-use Rattle.graph.proofs.least.least_gap.Lts as lts
-use Rattle.graph.proofs.least.gap_turn.Reads as gap-turn-reads
-use Rattle.graph.proofs.least.none_yet.Reads as none-yet-reads
-use Rattle.tag.proofs.at_most.Reads as at-most-reads
 
 abbrev Inv-loop : tie.InvT-loop
 Inv-loop found seen m n b₀ l₀ b l = (n ≡ min (m .«list_count») 128) × (l ≤ n) × LeastOf (GapShown no-list m found seen l) b

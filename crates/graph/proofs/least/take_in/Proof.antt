@@ -1,3 +1,4 @@
+-- `graph::least::take_in` meets its contract. Assumes nothing.
 use native.Mathlib.Omega.{arith}
 use borrow.Author.Needs.{needs}
 use mathlib.Core.Path.{sym, _∙_}
@@ -5,9 +6,6 @@ use borrow.Author.Tests.{not-true, not-false}
 use Rattle.graph.specs.Least.{takeIn}
 use Rattle.graph.proofs.least.take_in.Statement.{statement}
 use Rattle.graph.proofs.least.take_in.Tie as tie
-use Rattle.graph.proofs.least.take_in.Reads as reads
-use Rattle.graph.proofs.least.take_in.Lts as lts
-use Rattle.tag.proofs.order.comes_before.Reads as comes-before-reads
 
 returns : tie.Need-returns
 unfolding takeIn

@@ -1,11 +1,9 @@
+-- `graph::nodes::can_be_next` meets its contract. Assumes nothing.
 use native.Mathlib.Omega.{arith}
 use borrow.Author.Needs.{needs}
 use borrow.Author.Tests.{eq-eqb, ne-eqb}
 use Rattle.graph.proofs.nodes.can_be_next.Statement.{statement}
 use Rattle.graph.proofs.nodes.can_be_next.Tie as tie
-use Rattle.graph.proofs.nodes.can_be_next.Reads as reads
-use Rattle.graph.proofs.nodes.can_be_next.Lts as lts
-use Rattle.graph.proofs.nodes.ready.Reads as ready-reads
 
 element-copy-out-if1 : tie.Need-element-copy-out-if1
 element-copy-out-if1 c = search needs

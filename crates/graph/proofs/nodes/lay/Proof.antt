@@ -1,3 +1,4 @@
+-- `graph::nodes::lay` meets its contract: `Laws/Wires.antt`. Assumes nothing.
 use native.Mathlib.Omega.{arith}
 use borrow.Author.Needs.{needs}
 use Prim.Native.Nat.{ℕ, _<_, _-_}
@@ -6,9 +7,6 @@ use lib.ListN.{length-replicate, getD-replicate}
 use Rattle.graph.proofs.Laws.Wires.{Going, going-start, going-room, going-more, going-stuck, going-done}
 use Rattle.graph.proofs.nodes.lay.Statement.{statement}
 use Rattle.graph.proofs.nodes.lay.Tie as tie
-use Rattle.graph.proofs.nodes.lay.Reads as reads
-use Rattle.graph.proofs.nodes.lay.Lts as lts
-use Rattle.graph.proofs.nodes.next_ready.Reads as next-ready-reads
 
 abbrev Inv-loop : tie.InvT-loop
 Inv-loop w line n seen t at₀ placed₀ k₀ at placed k = Going w t at placed k

@@ -1,11 +1,10 @@
+-- `graph::nodes::meet` meets its contract: `Laws/Line.antt`. Assumes nothing.
 use native.Mathlib.Omega.{arith}
 use borrow.Author.Needs.{needs}
 use mathlib.Core.Logic.{inl, inr}
 use Rattle.graph.proofs.Laws.Line.{met-same, met-room, met-more}
 use Rattle.graph.proofs.nodes.meet.Statement.{statement}
 use Rattle.graph.proofs.nodes.meet.Tie as tie
-use Rattle.graph.proofs.nodes.meet.Reads as reads
-use Rattle.graph.proofs.nodes.meet.Lts as lts
 
 returns : tie.Need-returns
 returns c = met-same (c .before .args .at .now) (c .before .args .n) (c .before .args .seen .now) (c .before .pre) (c .before .args .x) (inl (c .if1 .taken))

@@ -1,3 +1,4 @@
+-- `graph::nodes::next_ready` meets its contract: `Laws/Wires.antt`. Assumes nothing.
 use native.Mathlib.Omega.{arith}
 use borrow.Author.Needs.{needs}
 use Prim.Native.Nat.{_≤_, _<_, _-_}
@@ -6,9 +7,6 @@ use lib.ListN.{getD}
 use Rattle.graph.proofs.Laws.Wires.{Passed, passed-more, passed-end, take-at}
 use Rattle.graph.proofs.nodes.next_ready.Statement.{statement}
 use Rattle.graph.proofs.nodes.next_ready.Tie as tie
-use Rattle.graph.proofs.nodes.next_ready.Reads as reads
-use Rattle.graph.proofs.nodes.next_ready.Lts as lts
-use Rattle.graph.proofs.nodes.can_be_next.Reads as can-be-next-reads
 
 abbrev Inv-loop : tie.InvT-loop
 Inv-loop w at n seen placed i₀ i = Passed w at n placed i

@@ -1,3 +1,4 @@
+-- `graph::nodes::reach` meets its contract: `Laws/Line.antt`. Assumes nothing.
 use native.Mathlib.Omega.{arith}
 use borrow.Author.Needs.{needs}
 use Prim.Native.Nat.{_<_, _-_}
@@ -6,9 +7,6 @@ use mathlib.Core.Path.{refl}
 use Rattle.graph.proofs.Laws.Line.{Going, none-listed, going-first, going-small, going-turn, going-end}
 use Rattle.graph.proofs.nodes.reach.Statement.{statement}
 use Rattle.graph.proofs.nodes.reach.Tie as tie
-use Rattle.graph.proofs.nodes.reach.Reads as reads
-use Rattle.graph.proofs.nodes.reach.Lts as lts
-use Rattle.graph.proofs.nodes.meet.Reads as meet-reads
 
 abbrev Inv-loop : tie.InvT-loop
 Inv-loop w t at₀ seen₀ n₀ i₀ at seen n i = Going w t at n seen i

@@ -1,11 +1,9 @@
+-- `graph::nodes::ready` meets its contract. Assumes nothing.
 use native.Mathlib.Omega.{arith}
 use borrow.Author.Needs.{needs}
 use borrow.Author.Tests.{not-true, not-false}
 use Rattle.graph.proofs.nodes.ready.Statement.{statement}
 use Rattle.graph.proofs.nodes.ready.Tie as tie
-use Rattle.graph.proofs.nodes.ready.Reads as reads
-use Rattle.graph.proofs.nodes.ready.Lts as lts
-use Rattle.graph.proofs.nodes.served.Reads as served-reads
 
 mul-served : tie.Need-mul-served
 mul-served c = search needs

@@ -1,10 +1,9 @@
+-- `graph::nodes::served` meets its contract. Assumes nothing.
 use native.Mathlib.Omega.{arith}
 use borrow.Author.Needs.{needs}
 use borrow.Author.Tests.{lt-ltb, le-ltb}
 use Rattle.graph.proofs.nodes.served.Statement.{statement}
 use Rattle.graph.proofs.nodes.served.Tie as tie
-use Rattle.graph.proofs.nodes.served.Reads as reads
-use Rattle.graph.proofs.nodes.served.Lts as lts
 
 element-copy-out-result : tie.Need-element-copy-out-result
 element-copy-out-result c = search needs

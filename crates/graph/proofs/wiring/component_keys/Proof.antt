@@ -1,3 +1,4 @@
+-- `graph::wiring::component_keys` meets its contract. Assumes nothing.
 use native.Mathlib.Omega.{arith}
 use borrow.Author.Needs.{needs}
 use Prim.Native.Nat.{ℕ, _≤_, _-_}
@@ -5,10 +6,6 @@ use mathlib.Core.Path.{_≡_}
 use lib.ListN.{length, length-set, length-replicate}
 use Rattle.graph.proofs.wiring.component_keys.Statement.{statement}
 use Rattle.graph.proofs.wiring.component_keys.Tie as tie
-use Rattle.graph.proofs.wiring.component_keys.Reads as reads
-use Rattle.graph.proofs.wiring.component_keys.Lts as lts
-use Rattle.graph.proofs.wiring.key.Reads as key-reads
-use Rattle.tag.proofs.at_most.Reads as at-most-reads
 
 abbrev Inv-loop : tie.InvT-loop
 Inv-loop m n keys₀ i₀ keys i = (i ≤ n)

@@ -1,12 +1,9 @@
+-- `graph::wiring::key` meets its contract. Assumes nothing.
 use native.Mathlib.Omega.{arith}
 use borrow.Author.Needs.{needs}
 use Prim.Native.Nat.{_≤_, _-_}
 use Rattle.graph.proofs.wiring.key.Statement.{statement}
 use Rattle.graph.proofs.wiring.key.Tie as tie
-use Rattle.graph.proofs.wiring.key.Reads as reads
-use Rattle.graph.proofs.wiring.key.Lts as lts
-use Rattle.graph.proofs.wiring.wide.Reads as wide-reads
-use Rattle.tag.proofs.at_most.Reads as at-most-reads
 
 abbrev Inv-loop : tie.InvT-loop
 Inv-loop t n k₀ i₀ k i = (i ≤ n)

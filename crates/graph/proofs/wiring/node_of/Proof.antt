@@ -1,3 +1,4 @@
+-- `graph::wiring::node_of` meets its contract: `Laws/Node.antt`. Assumes nothing.
 use native.Mathlib.Omega.{arith}
 use borrow.Author.Needs.{needs}
 use mathlib.Core.Path.{sym, _∙_}
@@ -5,10 +6,6 @@ use Rattle.tag.specs.View.{bytesOf}
 use Rattle.graph.proofs.Laws.Node.{node-hit, node-list, node-neither}
 use Rattle.graph.proofs.wiring.node_of.Statement.{statement}
 use Rattle.graph.proofs.wiring.node_of.Tie as tie
-use Rattle.graph.proofs.wiring.node_of.Reads as reads
-use Rattle.graph.proofs.wiring.node_of.Lts as lts
-use Rattle.model.proofs.find.find_component.Reads as find-component-reads
-use Rattle.model.proofs.find.find_list.Reads as find-list-reads
 
 find-component-requires : tie.Need-find-component-requires
 find-component-requires c κs = search needs

@@ -1,12 +1,10 @@
+-- `graph::wiring::settle` meets its contract. Assumes nothing.
 use native.Mathlib.Omega.{arith}
 use borrow.Author.Needs.{needs}
 use mathlib.Core.Path.{sym, _∙_}
 use borrow.Author.Tests.{lt-ltb, le-ltb, eq-eqb, ne-eqb}
 use Rattle.graph.proofs.wiring.settle.Statement.{statement}
 use Rattle.graph.proofs.wiring.settle.Tie as tie
-use Rattle.graph.proofs.wiring.settle.Reads as reads
-use Rattle.graph.proofs.wiring.settle.Lts as lts
-use Rattle.tag.proofs.same_tag.Reads as same-tag-reads
 
 returns : tie.Need-returns
 returns c = simp (ne-eqb _ _ (c .if1 .taken))

@@ -1,3 +1,4 @@
+-- `graph::wiring::slot_at` meets its contract: `Laws/Places.antt`. Assumes nothing.
 use native.Mathlib.Omega.{arith}
 use borrow.Author.Needs.{needs}
 use mathlib.Core.Path.{_≡_, refl}
@@ -5,9 +6,6 @@ use lib.ListN.{length, length-map}
 use Rattle.graph.proofs.Laws.Places.{slot-own, slot-past, slot-named, slot-gap}
 use Rattle.graph.proofs.wiring.slot_at.Statement.{statement}
 use Rattle.graph.proofs.wiring.slot_at.Tie as tie
-use Rattle.graph.proofs.wiring.slot_at.Reads as reads
-use Rattle.graph.proofs.wiring.slot_at.Lts as lts
-use Rattle.tag.proofs.at_most.Reads as at-most-reads
 
 long : (s : tie.Start) → length (s .args .t1 .places) ≡ 3
 long s = simp length-map at (s .good .0 .1 .1 .1 .1 .0 .1 .0 .1)

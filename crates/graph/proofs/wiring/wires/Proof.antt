@@ -1,3 +1,4 @@
+-- `graph::wiring::wires` meets its contract: `Laws/Drawing.antt`. Assumes nothing.
 use native.Mathlib.Omega.{arith}
 use borrow.Author.Needs.{needs}
 use Prim.Native.Nat.{_*_, _<_, _≤_, _-_}
@@ -7,8 +8,6 @@ use Rattle.graph.specs.Wiring.{Wired}
 use Rattle.graph.proofs.Laws.Drawing.{wired-start, wired-more}
 use Rattle.graph.proofs.wiring.wires.Statement.{statement}
 use Rattle.graph.proofs.wiring.wires.Tie as tie
-use Rattle.graph.proofs.wiring.wires.Reads as reads
-use Rattle.graph.proofs.wiring.wires.Lts as lts
 
 abbrev Inv-loop : tie.InvT-loop
 Inv-loop found n w₀ l₀ w l = (l ≤ n) × Wired found l w
