@@ -1,0 +1,2 @@
+// The edits of a model, by value.
+pub mod wiring;
