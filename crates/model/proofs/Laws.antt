@@ -1,3 +1,9 @@
--- `Bool`: tests as facts. `Table`: what a table holds after a change.
+-- `Bool`: tests as facts. `Table`: what a table holds after a change. `Valid`: what 7 asks, by lookups.
 pub mod Bool
 pub mod Table
+pub mod Valid
+-- Of the record. `Rows`: live rows. `Search`: a search by tag. `Changes`: tables changed in place. `Standing`: 7, part by part.
+pub mod Rows
+pub mod Search
+pub mod Changes
+pub mod Standing
