@@ -1,1 +1,2 @@
--- What the functions' proofs cite.
+-- What other crates and the functions' proofs cite.
+pub mod Theorems

@@ -1,4 +1,4 @@
--- `Bool`: tests as facts. `Table`: what a table holds after a change. `Valid`: what 7 asks, by lookups.
+-- `Bool`: tests as facts. `Table`: what a table holds after a change. `Valid`: what 7 asks, by lookups. `Change`: what is found after a change. `Places`: the places of a list after a change. `Numbered`: the tag made.
 pub mod Bool
 pub mod Table
 pub mod Valid
@@ -7,3 +7,6 @@ pub mod Rows
 pub mod Search
 pub mod Changes
 pub mod Standing
+pub mod Change
+pub mod Places
+pub mod Numbered

@@ -4,10 +4,10 @@ use mathlib.Core.Logic.{_≢_}
 use mathlib.Core.Bool.{Bool, true, false, not, _&&_, cond}
 use mathlib.Core.List.{List, [], _∷_}
 use mathlib.Core.Option.{Option, none, some, Option·map}
-use Prim.Native.Nat.{ℕ, zero, suc, _+_, _≤_, _<_}
+use Prim.Native.Nat.{ℕ, suc, _≤_, _<_}
 use native.Mathlib.Omega.{arith}
 use native.Mathlib.Nat.{le-antisymm}
-use lib.Dec.{T, leb, leb→le, le→leb}
+use lib.Dec.{T, leb→le, le→leb}
 use lib.ListN.{length}
 use Rattle.tag.specs.Tags.{Tag, is, overlong}
 use Rattle.tag.proofs.Laws.Is.{is-refl, is-true}

@@ -1,0 +1,2 @@
+-- `Count`: a parameter set keeps the count of inputs.
+pub mod Count

@@ -1,0 +1,2 @@
+-- `Keep`: every edit keeps 7.
+pub mod Keep
