@@ -1,2 +1,2 @@
--- `Walk`: the walk over rows answers what the walk over tags is defined to.
-pub mod Walk
+-- `Step`: an edit meets its contract check by check.
+pub mod Step

@@ -8,7 +8,7 @@ use lib.ListN.{length, getD, set}
 use Rattle.tag.specs.Tags.{Tag}
 use Rattle.model.specs.Table.{Table, find}
 use Rattle.model.specs.Model.{Place}
-use Rattle.edit.specs.declared.wiring.Line.{Line}
+use Rattle.wiring.specs.declared.walk.Line.{Line}
 
 -- row r of the table is t's, and holds a
 pub record Row {A : Type 0} (table : Table A) (r : ℕ) (t : Tag) (a : A) : Type 0 where

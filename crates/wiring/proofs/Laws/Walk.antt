@@ -15,7 +15,7 @@ use Rattle.tag.proofs.Laws.Same.{is-false}
 use Rattle.model.specs.Table.{any, Table, find}
 use Rattle.model.specs.Model.{Place, Model, list, inputs}
 use Rattle.model.specs.Walk.{gap, tags, fresh, Walked, clear, met, gapped, walk}
-use Rattle.edit.specs.Walking.{Row}
+use Rattle.wiring.specs.Walking.{Row}
 
 -- ---- the order in which tags were seen does not matter
 

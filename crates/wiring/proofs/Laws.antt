@@ -1,0 +1,2 @@
+-- `Walk`: the walk over rows answers what the walk over tags is defined to.
+pub mod Walk

@@ -1,0 +1,2 @@
+// Wiring: one input list changed at one place.
+pub mod walk;
