@@ -1,3 +1,9 @@
--- `Is`: two byte strings for which `is` holds are the same. `Same`: whether two are is decided.
+-- `Is`: two byte strings for which `is` holds are the same. `Same`: whether two are is decided. `Order`: `before` is a strict total order. `Steps`: both, byte by byte.
+-- `View`: the bytes of a tag's record, and a record made of bytes. `Digits`: decimal numbers. `Numbered`: numbered tags, and whether they fit.
 pub mod Is
 pub mod Same
+pub mod Order
+pub mod Steps
+pub mod View
+pub mod Digits
+pub mod Numbered

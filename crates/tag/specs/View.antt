@@ -1,8 +1,9 @@
 -- What the record of a tag means. Definitions only.
 use mathlib.Core.Path.{_≡_}
 use mathlib.Core.Bool.{Bool, true}
+use Prim.Native.Nat.{_-_}
 use lib.Dec.{leb}
-use lib.ListN.{take}
+use lib.ListN.{take, drop, replicate}
 use Rattle.tag.specs.declared.Tag.{Tag as Label}
 use Rattle.tag.specs.Tags.{Tag}
 
@@ -18,3 +19,8 @@ tagFits t = leb (t .len) 32
 pub record Labelled (t : Tag) (r : Label) : Type 0 where
   pub bytes : bytesOf r ≡ t
   pub short : tagFits r ≡ true
+
+-- the record made of these bytes: the rest of it is 0
+pub record Made (t : Tag) (r : Label) : Type 0 where
+  pub labelled : Labelled t r
+  pub padded : drop (r .len) (r .bytes) ≡ replicate (32 - r .len) 0

@@ -1,5 +1,6 @@
 -- `is` decides whether two byte strings are the same. Assumes nothing.
 use mathlib.Core.Path.{_≡_, refl, sym, _∙_, ap, ap₂}
+use mathlib.Core.Logic.{_≢_}
 use mathlib.Core.Bool.{Bool, true, false, _&&_, true≢false}
 use mathlib.Core.List.{[], _∷_}
 use lib.Dec.{eqb}
@@ -30,3 +31,17 @@ is-only false s t h k = no (is s t) refl
     no : (b : Bool) → is s t ≡ b → false ≡ b
     no true e = k (is-true s t e)
     no false e = refl
+
+pub is-false : (s t : Tag) → s ≢ t → is s t ≡ false
+is-false s t n = go (is s t) refl
+  where
+    go : (b : Bool) → is s t ≡ b → is s t ≡ false
+    go true e = absurd (n (is-true s t e))
+    go false e = e
+
+pub same? : (s t : Tag) → Dec (s ≡ t)
+same? s t = go (is s t) refl
+  where
+    go : (b : Bool) → is s t ≡ b → Dec (s ≡ t)
+    go true e = yes (is-true s t e)
+    go false e = no (λ p. true≢false (sym (is-refl s) ∙ (ap (is s) p ∙ e)))
