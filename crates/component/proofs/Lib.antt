@@ -1,2 +1,5 @@
--- What other crates and the functions' proofs cite.
+-- `Theorems` is for other crates, which name it as `Rattle.component.proofs.Theorems`; the functions' proofs cite the rest:
+-- `Numbers`, the literals and the rules on a parameter's number, and `Arms`, what the arms for several kinds return.
 pub mod Theorems
+mod Numbers
+mod Arms

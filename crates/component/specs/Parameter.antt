@@ -11,6 +11,8 @@ use Rattle.component.specs.declared.parameter.Data.{Data}
 use Rattle.component.specs.declared.parameter.Data.the-variants.{Value, Vec3 as Vector, Boolean}
 use Rattle.component.specs.declared.model_component.Setting.{Setting}
 use Rattle.component.specs.declared.model_component.Setting.the-variants.{Changed, DoesNotFit, TooNear}
+use Rattle.component.specs.declared.model_component.Reading.{Reading}
+use Rattle.component.specs.declared.model_component.Reading.the-variants.{Read, Nothing}
 use Rattle.component.specs.declared.model_component.Component.{Component}
 use Rattle.component.specs.declared.model_component.Component.the-variants.{Constant, Sphere, Torus, Multiply, Add, Subtract, Divide, Lerp, VariableLerp, Remap, BooleanUnion, BooleanIntersection, BooleanDifference, Offset, Thickness}
 
@@ -43,6 +45,9 @@ nameToMin = 84 ∷ 111 ∷ 77 ∷ 105 ∷ 110 ∷ []
 unfoldable pub nameToMax : Name
 nameToMax = 84 ∷ 111 ∷ 77 ∷ 97 ∷ 120 ∷ []
 
+unfoldable pub nameValue : Name
+nameValue = 86 ∷ 97 ∷ 108 ∷ 117 ∷ 101 ∷ []
+
 unfoldable pub nameDistance : Name
 nameDistance = 68 ∷ 105 ∷ 115 ∷ 116 ∷ 97 ∷ 110 ∷ 99 ∷ 101 ∷ []
 
@@ -58,14 +63,17 @@ oneNumber = fin false 1 (pos 0)
 unfoldable pub clamped : Float → Float
 clamped f = cond (lt f zeroNumber) zeroNumber (cond (lt oneNumber f) oneNumber f)
 
-abbrev sizeOf : Float → Float
+abbrev pub epsilon : Float
+epsilon = fin false 1 (negsuc 51)
+
+abbrev pub sizeOf : Float → Float
 sizeOf d = cond (negative d) (neg d) d
 
 -- the two differ, rounded, by less than 2 ^ -52 in size; a NaN difference passes
 unfoldable pub tooNear : Float → Float → Bool
-tooNear a b = lt (sizeOf (sub binary64 a b)) (fin false 1 (negsuc 51))
+tooNear a b = lt (sizeOf (sub binary64 a b)) epsilon
 
-abbrev apart : Float → Float → Component → Setting
+abbrev pub apart : Float → Float → Component → Setting
 apart a b c = cond (tooNear a b) TooNear (Changed c)
 
 -- ---- the parameter set
@@ -117,3 +125,28 @@ unfoldable pub setParameter : Component → Name → Data → Setting
 setParameter c n (Value v) = setValue c n v
 setParameter c n (Vector v) = setVec3 c n v
 setParameter c n (Boolean b) = DoesNotFit
+
+-- ---- the data under a name, as in the Rust, or nothing. A constant's is under `Value`.
+
+abbrev pub under : Name → Name → Data → Reading → Reading
+under n k x rest = cond (is n k) (Read x) rest
+
+unfoldable pub readParameter : Component → Name → Reading
+readParameter (Constant x) n = under n nameValue (Value x) Nothing
+readParameter (Sphere s) n = under n nameCentre (Vector (s .centre)) (under n nameRadius (Value (s .radius)) Nothing)
+readParameter (Torus s) n =
+    under n nameCentre (Vector (s .centre)) (under n nameRadius (Value (s .r)) (under n nameThickness (Value (s .t)) Nothing))
+readParameter Multiply n = Nothing
+readParameter Add n = Nothing
+readParameter Subtract n = Nothing
+readParameter Divide n = Nothing
+readParameter (Lerp factor) n = under n nameFactor (Value factor) Nothing
+readParameter VariableLerp n = Nothing
+readParameter (Remap fromMin fromMax toMin toMax) n =
+    under n nameFromMin (Value fromMin) (under n nameFromMax (Value fromMax)
+    (under n nameToMin (Value toMin) (under n nameToMax (Value toMax) Nothing)))
+readParameter BooleanUnion n = Nothing
+readParameter BooleanIntersection n = Nothing
+readParameter BooleanDifference n = Nothing
+readParameter (Offset distance) n = under n nameDistance (Value distance) Nothing
+readParameter (Thickness t) n = under n nameThickness (Value t) Nothing

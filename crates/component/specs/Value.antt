@@ -12,19 +12,19 @@ use Rattle.component.specs.declared.model_component.Component.the-varian
 -- the four operations, each rounded once
 infixl 60 _⊕_ _⊖_
 infixl 70 _⊗_ _⊘_
-abbrev _⊕_ : Float → Float → Float
+abbrev pub _⊕_ : Float → Float → Float
 a ⊕ b = add binary64 a b
 
-abbrev _⊖_ : Float → Float → Float
+abbrev pub _⊖_ : Float → Float → Float
 a ⊖ b = sub binary64 a b
 
-abbrev _⊗_ : Float → Float → Float
+abbrev pub _⊗_ : Float → Float → Float
 a ⊗ b = mul binary64 a b
 
-abbrev _⊘_ : Float → Float → Float
+abbrev pub _⊘_ : Float → Float → Float
 a ⊘ b = div binary64 a b
 
-abbrev two : Float
+abbrev pub two : Float
 two = fin false 1 (pos 1)
 
 -- Document 01's counts, read off each `eval` of the Rust. A constant, a sphere and a torus take none.

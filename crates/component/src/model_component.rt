@@ -1,8 +1,12 @@
 // A component of a form model.
+use crate::math;
+use crate::parameter::Data;
+use crate::shape;
 use geometry::sphere::Sphere;
 use geometry::torus::Torus;
+use geometry::vec3f::Vec3;
 ghost use mathlib.Core.Path.{_≡_};
-ghost use Rattle.component.specs.Value.{inputCount};
+ghost use Rattle.component.specs.Value.{inputCount, compute};
 
 pub enum Component {
     Constant(f64),
@@ -34,6 +38,12 @@ pub enum Setting {
     TooNear,
 }
 
+// A parameter read: its data, or nothing under that name.
+pub enum Reading {
+    Read(Data),
+    Nothing,
+}
+
 // How many inputs a component takes.
 pub fn input_count(c: Component) -> usize
     ensures { λ r. ⌜ r ≡ inputCount c ⌝ }
@@ -59,5 +69,33 @@ pub fn input_count(c: Component) -> usize
         Component::BooleanDifference => 2,
         Component::Offset(_) => 1,
         Component::Thickness(_) => 1,
+    }
+}
+
+// The number of a component at p, where a, b, c are the numbers of its inputs 0, 1, 2.
+pub fn compute(component: Component, p: Vec3, a: f64, b: f64, c: f64) -> f64
+    ensures { λ r. ⌜ r ≡ compute component p a b c ⌝ }
+{
+    match component {
+        Component::Constant(v) => v,
+        Component::Sphere(s) => s.eval(p.x, p.y, p.z),
+        Component::Torus(s) => s.eval(p.x, p.y, p.z),
+        Component::Multiply => math::multiply(a, b),
+        Component::Add => math::add(a, b),
+        Component::Subtract => math::subtract(a, b),
+        Component::Divide => math::divide(a, b),
+        Component::Lerp(factor) => math::lerp(factor, a, b),
+        Component::VariableLerp => math::variable_lerp(a, b, c),
+        Component::Remap {
+            from_min,
+            from_max,
+            to_min,
+            to_max,
+        } => math::remap(from_min, from_max, to_min, to_max, a),
+        Component::BooleanUnion => shape::boolean_union(a, b),
+        Component::BooleanIntersection => shape::boolean_intersection(a, b),
+        Component::BooleanDifference => shape::boolean_difference(a, b),
+        Component::Offset(distance) => shape::offset(distance, a),
+        Component::Thickness(t) => shape::thickness(t, a),
     }
 }

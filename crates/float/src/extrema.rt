@@ -17,8 +17,9 @@ pub fn min(a: f64, b: f64) -> f64
     if b < a {
         return b;
     }
+    // equal numbers differ at most in the sign of a zero
     if f64::to_bits(a) < 0x8000_0000_0000_0000 {
-        return b;
+        return b; // -0 where either is
     }
     a
 }
@@ -39,7 +40,7 @@ pub fn max(a: f64, b: f64) -> f64
         return a;
     }
     if f64::to_bits(a) < 0x8000_0000_0000_0000 {
-        return a;
+        return a; // +0 where either is
     }
     b
 }

@@ -1,0 +1,2 @@
+// What a host program calls, through numbers and byte slices.
+pub mod numbers;
