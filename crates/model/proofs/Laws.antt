@@ -2,7 +2,7 @@
 pub mod Bool
 pub mod Table
 pub mod Valid
--- Of the record. `Rows`: live rows. `Search`: a search by tag. `Changes`: tables changed in place. `Standing`: 7, part by part.
+-- Of the record. `Rows`: live rows. `Search`: a search by tag. `Changes`: tables changed in place. `Standing`: 7, part by part. `Passes`: 7 as the code judges it.
 pub mod Rows
 pub mod Search
 pub mod Changes
@@ -10,3 +10,5 @@ pub mod Standing
 pub mod Change
 pub mod Places
 pub mod Numbered
+pub mod Passes
+pub mod Pairs

@@ -2,3 +2,4 @@
 pub mod find;
 pub mod implicit_model;
 pub mod model_error;
+pub mod validity;

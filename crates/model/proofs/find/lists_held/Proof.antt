@@ -1,0 +1,16 @@
+use native.Mathlib.Omega.{arith}
+use borrow.Author.Needs.{needs}
+use Rattle.model.proofs.find.lists_held.Statement.{statement}
+use Rattle.model.proofs.find.lists_held.Tie as tie
+use Rattle.model.proofs.find.lists_held.Reads as reads
+use Rattle.model.proofs.find.lists_held.Lts as lts
+use Rattle.tag.proofs.at_most.Reads as at-most-reads
+
+at-most-requires : tie.Need-at-most-requires
+at-most-requires c κs = search needs
+
+returns : tie.Need-returns
+returns c = ?
+
+pub lists-held-spec : {M : Type 1} → statement M
+lists-held-spec = tie.close (tie.spec at-most-requires returns)
