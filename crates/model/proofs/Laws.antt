@@ -1,4 +1,7 @@
--- `Bool`: tests as facts. `Table`: what a table holds after a change. `Valid`: what 7 asks, by lookups. `Change`: what is found after a change. `Places`: the places of a list after a change. `Numbered`: the tag made.
+-- `Bool`: tests as facts. `Table`: what a table holds after a change.
+-- `Valid`: what 7 asks, by lookups. `Change`: what is found after a change, taken back. `Even`: tables that hold the same.
+-- `Places`: the places of a list after a change. `Numbered`: the tag that is made. `Line`: the line of the wiring walk.
+-- `Once`: lists without repetition, and how long they are. `Reach`: reach wire after wire, and lists with inputs ahead of users.
 pub mod Bool
 pub mod Table
 pub mod Valid
@@ -8,7 +11,12 @@ pub mod Search
 pub mod Changes
 pub mod Standing
 pub mod Change
+pub mod Even
 pub mod Places
 pub mod Numbered
 pub mod Passes
 pub mod Pairs
+pub mod Line
+pub mod Once
+pub mod Reach
+pub mod Least

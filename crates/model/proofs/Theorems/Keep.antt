@@ -20,7 +20,8 @@ use Rattle.component.specs.declared.model_component.Setting.{Setting}
 use Rattle.component.specs.declared.model_component.Setting.the-variants.{Changed, DoesNotFit, TooNear}
 use Rattle.component.specs.declared.model_component.Component.{Component}
 use Rattle.component.specs.declared.model_component.Component.the-variants.{Constant}
-use Rattle.component.proofs.Theorems.Count.{set-count, count-few, function-none}
+use Rattle.component.proofs.Theorems.Setting.{same-count}
+use Rattle.component.proofs.Theorems.Count.{count-few, function-none}
 use Rattle.model.specs.Table.{all, any, Table, find, held, cut, put, each, move}
 use Rattle.model.specs.Model.{Place, Model, component, list, shortPlace, goodList, counted, named, valid}
 use Rattle.model.specs.Walk.{Walked, clear, met, gapped, walkFrom}
@@ -296,7 +297,7 @@ module _ {m : Model} (g : Good m) where
 
   fit-set : (t : Tag) (n : Name) (d : Data) (c : Option Component) → component m t ≡ c → Fit (setIn m t n d c)
   fit-set t n d none e = fit-refuse g
-  fit-set t n d (some c) e = fit-settle t c (parameterSet c n d) e (λ k q. set-count c n d q)
+  fit-set t n d (some c) e = fit-settle t c (parameterSet c n d) e (λ k q. same-count c k n d q)
 
   fit-edit : (e : Edit) → Fit (edit e m)
   unfolding edit addAny addWire removeWire remove rename setAt
