@@ -1,2 +1,2 @@
 pub mod Meets
-pub mod Refused
+pub mod Ends

@@ -17,7 +17,7 @@ use Rattle.model.proofs.Laws.Standing.{Standing, passes-valid, stands-passes}
 use Rattle.model.proofs.Theorems.Keep.{apply-valid}
 use Rattle.edit.specs.declared.Edited.{Edited}
 use Rattle.edit.specs.Meets.{defined, Meets}
-use Rattle.edit.specs.Refused.{Refused}
+use Rattle.edit.specs.Ends.{Ends, Refused}
 
 -- r is what the outcome o of an edit of m asks, at any table positions
 pub record Step (o : Outcome) (m : Record) (r : Edited) : Type 0 where
@@ -48,12 +48,20 @@ module _ {m : Record} {r : Edited} where
   unfolding check
   stop b n t i o z h = subst (λ (x : Bool). Step (cond x (refuse (view m) n t i) o) m r) (sym z) (refusal h)
 
-  -- done, with the tag made
-  pub finish-made : {w : Model} {t : Tag} → answerOf (r .answer) ≡ made t → Same w (view (r .model)) → Standing (r .model) → Step (record { answer = made t; model = w }) m r
-  finish-made a s g = record { answer = a; model = s; stands = inr g; kept = λ e. absurd (let z : _≡_ {A = ℕ} 0 1 = cc in let y : ⊥ = omega arith in y) }
+  -- the tag made, or done, with a record that stands and holds what the outcome does
+  pub finish-made : {w : Model} {t : Tag} {n : Record} → Ends (made t) n r → Same w (view n) → Standing n → Step (record { answer = made t; model = w }) m r
+  finish-made {w} {n = n} a s g = record {
+    answer = a .answer;
+    model = subst (λ (x : Record). Same w (view x)) (sym (a .model)) s;
+    stands = inr (subst Standing (sym (a .model)) g);
+    kept = λ e. absurd (let z : _≡_ {A = ℕ} 0 1 = cc (a .answer, e) in let y : ⊥ = omega arith in y) }
 
-  pub finish-done : {w : Model} → answerOf (r .answer) ≡ done → Same w (view (r .model)) → Standing (r .model) → Step (record { answer = done; model = w }) m r
-  finish-done a s g = record { answer = a; model = s; stands = inr g; kept = λ e. absurd (let z : _≡_ {A = ℕ} 0 1 = cc in let y : ⊥ = omega arith in y) }
+  pub finish-done : {w : Model} {n : Record} → Ends done n r → Same w (view n) → Standing n → Step (record { answer = done; model = w }) m r
+  finish-done {w} {n = n} a s g = record {
+    answer = a .answer;
+    model = subst (λ (x : Record). Same w (view x)) (sym (a .model)) s;
+    stands = inr (subst Standing (sym (a .model)) g);
+    kept = λ e. absurd (let z : _≡_ {A = ℕ} 0 1 = cc (a .answer, e) in let y : ⊥ = omega arith in y) }
 
 -- ---- 7
 

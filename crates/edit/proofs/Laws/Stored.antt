@@ -1,0 +1,36 @@
+-- One row of a table overwritten, or one more: the table then holds what is put there, and its rows fit. Assumes nothing.
+use mathlib.Core.Path.{_≡_, sym, _∙_, ap, subst}
+use mathlib.Core.Bool.{Bool, true}
+use mathlib.Core.List.{List, [], _∷_, _++_}
+use mathlib.Core.Option.{none}
+use Prim.Native.Nat.{ℕ, _+_, _<_, _≤_}
+use native.Mathlib.Omega.{arith}
+use lib.Dec.{T}
+use lib.ListN.{length, getD, set}
+use Rattle.tag.specs.Tags.{Tag}
+use Rattle.model.specs.Table.{Table, find, put, distinct}
+use Rattle.model.specs.View.{every, rows}
+use Rattle.model.proofs.Laws.Rows.{rows-set, rows-at, rows-more}
+use Rattle.model.proofs.Laws.Search.{RowAt}
+use Rattle.model.proofs.Laws.Changes.{Becomes, appended, overwritten}
+use Rattle.model.proofs.Laws.Standing.{every-set, every-more}
+
+-- the table after it: what it holds, and that its rows fit
+pub record Stored {A B : Type 0} (g : A → Tag × B) (ok : A → Bool) (w : Table B) (n : ℕ) (table : List A) : Type 0 where
+  pub becomes : Becomes w (rows g n table)
+  pub fits : T (every (rows ok n table))
+
+module _ {A B : Type 0} (g : A → Tag × B) (ok : A → Bool) (table : List A) (n : ℕ) (t : Tag) (b : B) (x : A) (e : g x ≡ (t, b)) (o : T (ok x))
+    (once : T (distinct (rows g n table))) (all : T (every (rows ok n table))) where
+  pub over-row : (i : ℕ) (d : A) → RowAt g table n i t d → Stored g ok (put t b (rows g n table)) n (set table i x)
+  over-row i d at = record {
+    becomes = subst (λ (r : Table B). Becomes (put t b (rows g n table)) r)
+      (ap (set (rows g n table) i) (sym e) ∙ sym (rows-set g table n i x (at .below)))
+      (overwritten (g d) (rows g n table) i t b once (at .within) (ap (λ (y : Tag × B). y .0) (rows-at g table n i d (at .within)) ∙ at .tag));
+    fits = subst (λ (bs : List Bool). T (every bs)) (sym (rows-set ok table n i x (at .below))) (every-set (rows ok n table) i (ok x) all o) }
+
+  pub more-row : find t (rows g n table) ≡ none → n < length table → Stored g ok (put t b (rows g n table)) (n + 1) (set table n x)
+  more-row free k = record {
+    becomes = subst (λ (r : Table B). Becomes (put t b (rows g n table)) r)
+      (ap (λ (y : Tag × B). rows g n table ++ (y ∷ [])) (sym e) ∙ sym (rows-more g table n x k)) (appended t b (rows g n table) free once);
+    fits = subst (λ (bs : List Bool). T (every bs)) (sym (rows-more ok table n x k)) (every-more (rows ok n table) (ok x) all o) }
