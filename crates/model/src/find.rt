@@ -1,5 +1,6 @@
 // Finding a component or a list by its tag, and how many rows of a table are live.
-use crate::implicit_model::{InputList, Model};
+use crate::implicit_model::InputList;
+use crate::implicit_model::Model;
 use tag::Tag;
 ghost use mathlib.Core.Path.{_≡_};
 ghost use Rattle.tag.specs.View.{bytesOf};

@@ -1,15 +1,18 @@
-use native.Mathlib.Omega.{arith}
+-- `model::validity::place_fits` meets its contract. Assumes nothing.
+use mathlib.Core.Path.{_≡_, refl, sym, ap, _∙_}
 use borrow.Author.Needs.{needs}
+use Rattle.tag.specs.View.{tagFits}
+use Rattle.model.specs.View.{placeFits}
 use Rattle.model.proofs.validity.place_fits.Statement.{statement}
 use Rattle.model.proofs.validity.place_fits.Tie as tie
-use Rattle.model.proofs.validity.place_fits.Reads as reads
-use Rattle.model.proofs.validity.place_fits.Lts as lts
 
 returns : tie.Need-returns
-returns c = ?
+unfolding placeFits tagFits
+returns c = rw (c .before .if1 .taken)
 
 returns-2 : tie.Need-returns-2
-returns-2 c = ?
+unfolding placeFits tagFits
+returns-2 c = rw (c .if1 .left)
 
 pub place-fits-spec : {M : Type 1} → statement M
 place-fits-spec = tie.close (tie.spec returns returns-2)
