@@ -1,2 +1,4 @@
--- `Walk`: the walk over rows answers what the walk over tags is defined to.
+-- `Walk`: the walk over rows answers what the walk over tags is defined to. `Marks`: how many rows are marked. `Line`: the walk in the code, step by step.
 pub mod Walk
+pub mod Marks
+pub mod Line
