@@ -31,9 +31,11 @@ use Rattle.model.proofs.Laws.Changes.{find-at, rows-apart}
 use Rattle.model.proofs.Laws.Standing.{Standing, standing}
 use Rattle.model.proofs.Theorems.Walk.{walk-ends}
 use Rattle.wiring.specs.declared.walk.Line.{Line}
-use Rattle.wiring.specs.Walking.{Row, marks, Counted, started, pushed, Joined, absent, again, joins, Walkable, tagAt}
+use Rattle.wiring.specs.Walking.{Row, marks, Counted, started, pushed, Joined, absent, again, joins, Walkable, tagAt, Walks, Says, says-clear, says-met, says-gap}
+use Rattle.wiring.specs.declared.walk.Ended.{Ended}
+use Rattle.wiring.specs.declared.walk.Ended.the-variants.{Clear, Met, Gap}
 use Rattle.wiring.proofs.Laws.Walk.{Rows, nothing, present, Marked, Waits, Scans, waits-end, waits-first, scans-gap, scans-end, scans-absent, scans-again, scans-joins}
-use Rattle.wiring.proofs.Laws.Marks.{marks-more, marks-none}
+use Rattle.wiring.proofs.Laws.Marks.{marks-few, marks-more, marks-none}
 
 -- ---- rows
 
@@ -83,6 +85,13 @@ pub record Scanning (m : Record) (target from : ℕ) (line : Line) (head r : ℕ
 
 length-tail : (line : Line) → Counted line → line .tail ≤ 128 → length (take (line .tail) (line .rows)) ≡ line .tail
 length-tail line c h = omega (arith, length-take (line .tail) (line .rows), c .rows)
+
+-- a row of a model that 7 lets pass is below the table's size
+pub row-below : (m : Record) (r : ℕ) → passes m ≡ true → r < length (listsOf m) → r < 128
+row-below m r p h = omega (arith, rows-length listOf (m .lists) (m .«list_count»), standing m p .few-lists)
+
+pub counted-few : (line : Line) → Counted line → line .tail ≤ 128
+counted-few line c = omega (arith, marks-few (line .seen), c .seen, c .tail)
 
 module _ (m : Record) (target from : ℕ) (w : Walkable m target from) where
   table : Table (List Place)
@@ -230,3 +239,16 @@ pub sought-row : {table : Table (List Place)} {cap i : ℕ} {t : Tag} {f : Found
 sought-row {table} {i = i} p e =
     let w = row ([], []) table (sym (p .at) ∙ e) in
     record { within = w .within; entry = λ d. getD-any table i d ([], []) (w .within) ∙ (λ j. (w .tag j, getD table i ([], []) .1)) }
+
+-- ---- how it ended
+
+module _ (m : Record) (target from : ℕ) where
+  pub ended-clear : {e : Ended} → e ≡ Clear → answer m target from ≡ clear → Walks m target from e
+  ended-clear {e} p q =
+      subst (λ (x : Ended). Says (listsOf m) x (answer m target from)) (sym p) (subst (λ (a : Walked). Says (listsOf m) Clear a) (sym q) says-clear)
+
+  pub ended-met : answer m target from ≡ met → Walks m target from Met
+  ended-met q = subst (λ (a : Walked). Says (listsOf m) Met a) (sym q) says-met
+
+  pub ended-gap : {r i : ℕ} {t : Tag} {l : List Place} → Row (listsOf m) r t l → answer m target from ≡ gapped t i → Walks m target from (Gap r i)
+  ended-gap {r} {i} x q = subst (λ (a : Walked). Says (listsOf m) (Gap r i) a) (sym q) (says-gap x)
