@@ -5,7 +5,7 @@
 pub mod Bool
 pub mod Table
 pub mod Valid
--- Of the record. `Rows`: live rows. `Search`: a search by tag. `Changes`: tables changed in place. `Standing`: 7, part by part. `Passes`: 7 as the code judges it.
+-- Of the record. `Rows`: live rows. `Search`: a search by tag. `Changes`: tables changed in place. `Standing`: 7, part by part. `Passes`: 7 as the code judges it. `Pairs`: two indices in one loop. `Reading`: what stands at a position, and a new record.
 pub mod Rows
 pub mod Search
 pub mod Changes
@@ -20,3 +20,4 @@ pub mod Line
 pub mod Once
 pub mod Reach
 pub mod Least
+pub mod Reading

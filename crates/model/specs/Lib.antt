@@ -7,3 +7,4 @@ pub mod Steady
 pub mod Answer
 pub mod View
 pub mod Search
+pub mod Reading

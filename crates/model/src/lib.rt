@@ -2,4 +2,5 @@
 pub mod find;
 pub mod implicit_model;
 pub mod model_error;
+pub mod reading;
 pub mod validity;

@@ -97,3 +97,112 @@ fn components_distinct(m: Model) -> bool
     }
     true
 }
+
+// Whether no two input lists have one tag.
+fn lists_distinct(m: Model) -> bool
+    ensures { λ r. ⌜ r ≡ distinct (listsOf m) ⌝ }
+{
+    let n = lists_held(m);
+    let mut i: usize = 0;
+    let mut j: usize = 1;
+    while i < n {
+        if j < n {
+            let a = m.lists[i];
+            let b = m.lists[j];
+            let s = a.tag;
+            let t = b.tag;
+            if tag::same_tag(t, s) {
+                return false;
+            }
+            j += 1;
+        } else {
+            i += 1;
+            j = i + 1;
+        }
+    }
+    true
+}
+
+// Whether every component's tag is within its size and every operation has a list of its count, which j looks for anew at each row i.
+fn components_sound(m: Model) -> bool
+    ensures { λ r. ⌜ r ≡ every (rows (entrySound (listsOf m)) (m .«component_count») (m .components)) ⌝ }
+{
+    let n = components_held(m);
+    let k = lists_held(m);
+    let mut i: usize = 0;
+    let mut j: usize = 0;
+    while i < n {
+        let e = m.components[i];
+        let t = e.tag;
+        if 32 < t.len {
+            return false;
+        }
+        let c = e.component;
+        let takes = component::model_component::input_count(c);
+        if takes == 0 {
+            i += 1;
+            j = 0;
+        } else {
+            if k <= j {
+                return false;
+            }
+            let l = m.lists[j];
+            let s = l.tag;
+            if tag::same_tag(s, t) {
+                if places_held(l) != takes {
+                    return false;
+                }
+                i += 1;
+                j = 0;
+            } else {
+                j += 1;
+            }
+        }
+    }
+    true
+}
+
+// Whether there is no default, or one that names a component.
+fn default_sound(m: Model) -> bool
+    ensures { λ r. ⌜ r ≡ defaultSound (componentsOf m) (m .default) ⌝ }
+{
+    let d = m.default;
+    if d.assigned {
+        let t = d.tag;
+        if 32 < t.len {
+            return false;
+        }
+        let f = find_component(m, t);
+        if let Found::At(_) = f {
+            return true;
+        }
+        false
+    } else {
+        true
+    }
+}
+
+// Whether the model is one that refusal 7 lets pass.
+pub fn is_valid(m: Model) -> bool
+    ensures { λ r. ⌜ r ≡ passes m ⌝ }
+{
+    if 64 < m.component_count {
+        return false;
+    }
+    if 128 < m.list_count {
+        return false;
+    }
+    if !lists_sound(m) {
+        return false;
+    }
+    if !components_sound(m) {
+        return false;
+    }
+    if !components_distinct(m) {
+        return false;
+    }
+    if !lists_distinct(m) {
+        return false;
+    }
+    default_sound(m)
+}

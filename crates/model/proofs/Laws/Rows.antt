@@ -8,8 +8,27 @@ use native.Mathlib.Nat.{not-suc-le-zero, le-of-suc-le-suc}
 use native.Mathlib.Omega.{arith}
 use lib.ListN.{take, drop, length, getD, set, length-take, length-map, List·getD-map, drop-of-length-le}
 use lib.Seq.{drop-cons, getD-take, take-set-lt, take-suc-set, take-take, take-nil}
+use lib.Ieee.{nan}
+use Rattle.tag.specs.declared.Tag.{Tag as Label}
+use Rattle.component.specs.declared.model_component.Component.the-variants.{Constant}
+use Rattle.model.specs.declared.implicit_model.Place.{Place as PlaceRecord}
+use Rattle.model.specs.declared.implicit_model.ComponentEntry.{ComponentEntry}
+use Rattle.model.specs.declared.implicit_model.InputList.{InputList}
 use Rattle.model.specs.View.{rows, every}
 use Rattle.model.specs.Search.{Live}
+
+-- what the code's tables read as past their ends, where nothing reads them
+abbrev pub no-tag : Label
+no-tag = record { bytes = []; len = 0 }
+
+abbrev pub no-place : PlaceRecord
+no-place = record { assigned = false; tag = no-tag }
+
+abbrev pub no-entry : ComponentEntry
+no-entry = record { tag = no-tag; component = Constant nan }
+
+abbrev pub no-list : InputList
+no-list = record { tag = no-tag; count = 0; places = [] }
 
 map-set : {A B : Type 0} (g : A → B) (xs : List A) (i : ℕ) (x : A) → map g (set xs i x) ≡ set (map g xs) i (g x)
 map-set g [] i x = refl

@@ -1,23 +1,25 @@
+-- `model::validity::components_distinct` meets its contract: pairs of rows by `Laws/Pairs.antt`. Assumes nothing.
+use Prim.Native.Nat.{_+_, _*_, _≤_, _-_}
 use native.Mathlib.Omega.{arith}
 use borrow.Author.Needs.{needs}
+use Rattle.model.specs.View.{componentsOf, componentOf}
+use Rattle.model.proofs.Laws.Rows.{rows-next}
+use Rattle.model.proofs.Laws.Pairs.{Apart, apart-start, apart-on, apart-pair, apart-next, apart-end}
 use Rattle.model.proofs.validity.components_distinct.Statement.{statement}
 use Rattle.model.proofs.validity.components_distinct.Tie as tie
-use Rattle.model.proofs.validity.components_distinct.Reads as reads
-use Rattle.model.proofs.validity.components_distinct.Lts as lts
-use Rattle.model.proofs.find.components_held.Reads as components-held-reads
-use Rattle.tag.proofs.same_tag.Reads as same-tag-reads
 
 abbrev Inv-loop : tie.InvT-loop
-Inv-loop m n i₀ j₀ i j = ?
+Inv-loop m n i₀ j₀ i j = (i ≤ n) × (j ≤ n + 1) × Apart (componentsOf m) i j
 
+-- j starts anew at each i
 abbrev μ-loop : tie.MeasureT-loop
-μ-loop m n i₀ j₀ i j = ?
+μ-loop m n i₀ j₀ i j = (64 - i) * 66 + (66 - j)
 
 components-held-requires : tie.Need-components-held-requires Inv-loop μ-loop
 components-held-requires c κs = search needs
 
 loop-holds : tie.Need-loop-holds Inv-loop μ-loop
-loop-holds c = ?
+loop-holds c = (omega arith, omega arith, apart-start (componentsOf (c .before .args .t1)))
 
 mul-a : tie.Need-mul-a Inv-loop μ-loop
 mul-a c = omega arith
@@ -35,7 +37,12 @@ same-tag-requires : tie.Need-same-tag-requires Inv-loop μ-loop
 same-tag-requires c κs = search needs
 
 returns : tie.Need-returns Inv-loop μ-loop
-returns c = ?
+returns c =
+    let l = c .before .before .before .before .before .before .before .before in
+    let m = l .before .before .args .t1 in
+    let row-i = rows-next componentOf (m .components) (m .«component_count») (l .loop .i) _ (omega arith) in
+    let row-j = rows-next componentOf (m .components) (m .«component_count») (l .loop .j) _ (omega arith) in
+    apart-pair (componentsOf m) (l .loop .i) (l .loop .j) (l .loop .inv .2) _ row-i _ row-j _ (c .before .same-tag .ensures) (c .if2 .taken)
 
 add-j : tie.Need-add-j Inv-loop μ-loop
 add-j c = omega arith
@@ -44,7 +51,15 @@ loop-less : tie.Need-loop-less Inv-loop μ-loop
 loop-less c = omega arith
 
 loop-again : tie.Need-loop-again Inv-loop μ-loop
-loop-again c = ?
+loop-again c =
+    let l = c .before .before .before .before .before .before .before .before in
+    let m = l .before .before .args .t1 in
+    let row-i = rows-next componentOf (m .components) (m .«component_count») (l .loop .i) _ (omega arith) in
+    let row-j = rows-next componentOf (m .components) (m .«component_count») (l .loop .j) _ (omega arith) in (
+      omega arith,
+      omega arith,
+      apart-on (componentsOf m) (l .loop .i) (l .loop .j) (l .loop .inv .2) _ row-i _ row-j _ (c .before .same-tag .ensures) (c .if2 .left),
+    )
 
 add-i : tie.Need-add-i Inv-loop μ-loop
 add-i c = omega arith
@@ -56,10 +71,15 @@ loop-less-2 : tie.Need-loop-less-2 Inv-loop μ-loop
 loop-less-2 c = omega arith
 
 loop-again-2 : tie.Need-loop-again-2 Inv-loop μ-loop
-loop-again-2 c = ?
+loop-again-2 c =
+    let l = c .before .before in
+    let m = l .before .before .args .t1 in
+    (omega arith, omega arith, apart-next (componentsOf m) (l .loop .i) (l .loop .j) (l .loop .inv .2) (omega arith) (omega arith))
 
 returns-2 : tie.Need-returns-2 Inv-loop μ-loop
-returns-2 c = ?
+returns-2 c =
+    let l = c .before in
+    apart-end (componentsOf (l .before .before .args .t1)) (l .loop .i) (l .loop .j) (l .loop .inv .2) (omega arith)
 
 pub components-distinct-spec : {M : Type 1} → statement M
 components-distinct-spec =
