@@ -1,4 +1,6 @@
 // What an edit of a model hands back, and how it refuses.
+pub mod rows;
+
 use model::implicit_model::Model;
 use model::model_error::{Answer, Ending, ModelError};
 use tag::Tag;

@@ -11,9 +11,9 @@ use Rattle.model.specs.Table.{Table, find}
 use Rattle.model.specs.Model.{Place}
 use Rattle.model.specs.View.{listsOf, view, passes}
 use Rattle.model.specs.Walk.{Walked, clear, met, gapped, walkFrom}
-use Rattle.wiring.specs.declared.walk.Line.{Line}
-use Rattle.wiring.specs.declared.walk.Ended.{Ended}
-use Rattle.wiring.specs.declared.walk.Ended.the-variants.{Clear, Met, Gap}
+use Rattle.wiring.specs.declared.Line.{Line}
+use Rattle.wiring.specs.declared.Ended.{Ended}
+use Rattle.wiring.specs.declared.Ended.the-variants.{Clear, Met, Gap}
 
 -- row r of the table is t's, and holds a
 pub record Row {A : Type 0} (table : Table A) (r : ℕ) (t : Tag) (a : A) : Type 0 where
@@ -65,3 +65,12 @@ tagAt lists r = getD lists r ([], []) .0
 -- the walk from the one row's tag to the other's
 abbrev pub Walks : Record → ℕ → ℕ → Ended → Type 0
 Walks m target from r = Says (listsOf m) r (walkFrom (view m) (tagAt (listsOf m) target) (tagAt (listsOf m) from))
+
+-- a model that 7 lets pass, and one of its lists
+pub record Startable (m : Record) (target : ℕ) : Type 0 where
+  pub passing : passes m ≡ true
+  pub ends : target < length (listsOf m)
+
+-- the walk from a tag to the row's
+abbrev pub Wires : Record → ℕ → Tag → Ended → Type 0
+Wires m target source r = Says (listsOf m) r (walkFrom (view m) (tagAt (listsOf m) target) source)

@@ -30,10 +30,10 @@ use Rattle.model.proofs.Laws.Search.{row}
 use Rattle.model.proofs.Laws.Changes.{find-at, rows-apart}
 use Rattle.model.proofs.Laws.Standing.{Standing, standing}
 use Rattle.model.proofs.Theorems.Walk.{walk-ends}
-use Rattle.wiring.specs.declared.walk.Line.{Line}
+use Rattle.wiring.specs.declared.Line.{Line}
 use Rattle.wiring.specs.Walking.{Row, marks, Counted, started, pushed, Joined, absent, again, joins, Walkable, tagAt, Walks, Says, says-clear, says-met, says-gap}
-use Rattle.wiring.specs.declared.walk.Ended.{Ended}
-use Rattle.wiring.specs.declared.walk.Ended.the-variants.{Clear, Met, Gap}
+use Rattle.wiring.specs.declared.Ended.{Ended}
+use Rattle.wiring.specs.declared.Ended.the-variants.{Clear, Met, Gap}
 use Rattle.wiring.proofs.Laws.Walk.{Rows, nothing, present, Marked, Waits, Scans, waits-end, waits-first, scans-gap, scans-end, scans-absent, scans-again, scans-joins}
 use Rattle.wiring.proofs.Laws.Marks.{marks-few, marks-more, marks-none}
 

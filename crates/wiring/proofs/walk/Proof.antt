@@ -8,16 +8,16 @@ use borrow.Author.Tests.{not-true, not-false}
 use Rattle.model.specs.View.{placeOf, rows, listOf, listsOf}
 use Rattle.model.proofs.Laws.Rows.{rows-length}
 use Rattle.model.proofs.Laws.Standing.{standing}
-use Rattle.wiring.specs.declared.walk.Line.{Line}
-use Rattle.wiring.specs.declared.walk.Ended.the-variants.{Clear}
+use Rattle.wiring.specs.declared.Line.{Line}
+use Rattle.wiring.specs.declared.Ended.the-variants.{Clear}
 use Rattle.wiring.specs.Walking.{started, Says, says-clear, says-met, says-gap}
 use Rattle.wiring.proofs.Laws.Line.{Going, Scanning, going-start, going-end, ended-clear, ended-met, ended-gap, first-within, first-met, first-scan, scanning-end, scanning-gap, scanning-next, counted-few, row-below}
-use Rattle.wiring.proofs.walk.walk.Statement.{statement}
-use Rattle.wiring.proofs.walk.walk.Tie as tie
-use Rattle.wiring.proofs.walk.walk.Reads as reads
-use Rattle.wiring.proofs.walk.walk.Lts as lts
-use Rattle.wiring.proofs.walk.joined.Reads as joined-reads
-use Rattle.wiring.proofs.walk.start.Reads as start-reads
+use Rattle.wiring.proofs.walk.Statement.{statement}
+use Rattle.wiring.proofs.walk.Tie as tie
+use Rattle.wiring.proofs.walk.Reads as reads
+use Rattle.wiring.proofs.walk.Lts as lts
+use Rattle.wiring.proofs.joined.Reads as joined-reads
+use Rattle.wiring.proofs.start.Reads as start-reads
 
 abbrev Inv-loop : tie.InvT-loop
 Inv-loop target from m line₀ head end₀ r l n i₀ line end i = Scanning m target from line head r l i × (line .tail ≤ 128) × (i ≤ n) × (end ≡ Clear)

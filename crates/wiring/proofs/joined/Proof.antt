@@ -6,10 +6,10 @@ use Rattle.wiring.specs.Walking.{absent, again, joins}
 use Rattle.edit.proofs.Laws.Tests.{missing}
 use Rattle.wiring.proofs.Laws.Marks.{marks-more}
 use Rattle.wiring.proofs.Laws.Line.{sought-row}
-use Rattle.wiring.proofs.walk.joined.Statement.{statement}
-use Rattle.wiring.proofs.walk.joined.Tie as tie
-use Rattle.wiring.proofs.walk.joined.Reads as reads
-use Rattle.wiring.proofs.walk.joined.Lts as lts
+use Rattle.wiring.proofs.joined.Statement.{statement}
+use Rattle.wiring.proofs.joined.Tie as tie
+use Rattle.wiring.proofs.joined.Reads as reads
+use Rattle.wiring.proofs.joined.Lts as lts
 use Rattle.model.proofs.find.find_list.Reads as find-list-reads
 
 -- the position found is below the table's size

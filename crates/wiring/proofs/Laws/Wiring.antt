@@ -1,0 +1,1 @@
+-- Each way out of `add_input` and `remove_input`. Assumes nothing.
