@@ -3,7 +3,8 @@ use mathlib.Core.Path.{_≡_, refl, sym, _∙_, ap, subst}
 use mathlib.Core.Bool.{Bool, true}
 use mathlib.Core.List.{List, [], _∷_, _++_}
 use mathlib.Core.Option.{none}
-use Prim.Native.Nat.{ℕ, _+_, _<_, _≤_}
+use Prim.Native.Nat.{ℕ, zero, suc, _+_, _<_, _≤_}
+use native.Mathlib.Nat.{not-suc-le-zero, le-of-suc-le-suc}
 use native.Mathlib.Omega.{arith}
 use lib.Dec.{T}
 use lib.ListN.{length, getD, set}
@@ -15,7 +16,8 @@ use Rattle.model.specs.declared.implicit_model.Model.{Model as Record}
 use Rattle.model.specs.Table.{Table, find, put, distinct}
 use Rattle.model.specs.Model.{Place, Same}
 use Rattle.model.specs.View.{every, rows, componentOf, listOf, entryFits, listFits, view}
-use Rattle.model.proofs.Laws.Rows.{rows-set, rows-at, rows-more}
+use Rattle.model.proofs.Laws.Bool.{and-T₁, and-T₂}
+use Rattle.model.proofs.Laws.Rows.{rows-length, rows-set, rows-at, rows-more}
 use Rattle.model.proofs.Laws.Search.{RowAt}
 use Rattle.model.proofs.Laws.Changes.{Becomes, becomes-refl, appended, overwritten}
 use Rattle.model.proofs.Laws.Standing.{Standing, same-view, every-set, every-more}
@@ -61,3 +63,15 @@ module _ (m : Record) (g : Standing m) (i : ℕ) where
       → Same (record { components = w; lists = view m .lists; default = view m .default }) (view (withEntry m i e))
   unfolding view
   entry-same e s = same-view (withEntry m i e) (s .becomes) (becomes-refl (g .once-lists)) refl
+
+-- ---- a row that fits
+
+every-at : (bs : List Bool) (i : ℕ) (d : Bool) → T (every bs) → i < length bs → T (getD bs i d)
+every-at [] i d h k = absurd (not-suc-le-zero k)
+every-at (b ∷ bs) zero d h k = and-T₁ b (every bs) h
+every-at (b ∷ bs) (suc i) d h k = every-at bs i d (and-T₂ b (every bs) h) (le-of-suc-le-suc k)
+
+pub row-fits : {A : Type 0} (ok : A → Bool) (table : List A) (n i : ℕ) (d : A) → T (every (rows ok n table)) → i < n → i < length table → T (ok (getD table i d))
+row-fits ok table n i d h k l =
+    let w : i < length (rows ok n table) = omega (arith, rows-length ok table n) in
+    subst T (rows-at ok table n i d w) (every-at (rows ok n table) i (ok d) h w)

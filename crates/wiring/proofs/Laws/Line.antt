@@ -31,10 +31,10 @@ use Rattle.model.proofs.Laws.Changes.{find-at, rows-apart}
 use Rattle.model.proofs.Laws.Standing.{Standing, standing}
 use Rattle.model.proofs.Theorems.Walk.{walk-ends}
 use Rattle.wiring.specs.declared.Line.{Line}
-use Rattle.wiring.specs.Walking.{Row, marks, Counted, started, pushed, Joined, absent, again, joins, Walkable, tagAt, Walks, Says, says-clear, says-met, says-gap}
+use Rattle.wiring.specs.Walking.{Row, marks, Counted, started, pushed, Joined, absent, again, joins, Walkable, Startable, tagAt, Walks, Wires, Says, says-clear, says-met, says-gap}
 use Rattle.wiring.specs.declared.Ended.{Ended}
 use Rattle.wiring.specs.declared.Ended.the-variants.{Clear, Met, Gap}
-use Rattle.wiring.proofs.Laws.Walk.{Rows, nothing, present, Marked, Waits, Scans, waits-end, waits-first, scans-gap, scans-end, scans-absent, scans-again, scans-joins}
+use Rattle.wiring.proofs.Laws.Walk.{Rows, nothing, present, Marked, Waits, Scans, walk-nil, absent-turn, waits-end, waits-first, scans-gap, scans-end, scans-absent, scans-again, scans-joins}
 use Rattle.wiring.proofs.Laws.Marks.{marks-few, marks-more, marks-none}
 
 -- ---- rows
@@ -47,6 +47,9 @@ getD-any (x ∷ xs) (suc i) d e h = getD-any xs i d e (le-of-suc-le-suc h)
 -- the row of the code's table
 pub row-of : {A B : Type 0} (g : A → Tag × B) (table : List A) (n i : ℕ) (d : A) → i < length (rows g n table) → Row (rows g n table) i (g (getD table i d) .0) (g (getD table i d) .1)
 row-of g table n i d h = record { within = h; entry = λ e. getD-any (rows g n table) i e (g d) h ∙ rows-at g table n i d h }
+
+pub row-tag-at : (table : Table (List Place)) (r : ℕ) → r < length table → Row table r (tagAt table r) (getD table r ([], []) .1)
+row-tag-at table r h = record { within = h; entry = λ d. getD-any table r d ([], []) h }
 
 module _ {A : Type 0} (table : Table A) (once : T (distinct table)) where
   pub row-found : (r : ℕ) (t : Tag) (a : A) → Row table r t a → find t table ≡ some a
@@ -101,7 +104,7 @@ module _ (m : Record) (target from : ℕ) (w : Walkable m target from) where
   once = standing m (w .passing) .once-lists
 
   row-tag : (r : ℕ) → r < length (listsOf m) → Row (listsOf m) r (tagAt (listsOf m) r) (getD (listsOf m) r ([], []) .1)
-  row-tag r h = record { within = h; entry = λ d. getD-any (listsOf m) r d ([], []) h }
+  row-tag r h = row-tag-at (listsOf m) r h
 
   listed : find (tagAt (listsOf m) target) (listsOf m) ≢ none
   listed e = absurd (let z : _≡_ {A = ℕ} 0 1 = cc (e, row-found (listsOf m) once target _ _ (row-tag target (w .ends))) in let y : ⊥ = omega arith in y)
@@ -252,3 +255,40 @@ module _ (m : Record) (target from : ℕ) where
 
   pub ended-gap : {r i : ℕ} {t : Tag} {l : List Place} → Row (listsOf m) r t l → answer m target from ≡ gapped t i → Walks m target from (Gap r i)
   ended-gap {r} {i} x q = subst (λ (a : Walked). Says (listsOf m) (Gap r i) a) (sym q) (says-gap x)
+
+-- ---- from a tag
+
+-- a tag without a list is not the target, and has no inputs
+pub wires-absent : (m : Record) (target : ℕ) (s : Tag) → Startable m target → find s (listsOf m) ≡ none → Wires m target s Clear
+unfolding view walkFrom
+wires-absent m target s w e =
+    let once = standing m (w .passing) .once-lists in
+    let t = tagAt (listsOf m) target in
+    let listed : find t (listsOf m) ≢ none = λ n.
+        absurd (let z : _≡_ {A = ℕ} 0 1 = cc (n, row-found (listsOf m) once target _ _ (row-tag-at (listsOf m) target (w .ends))) in let y : ⊥ = omega arith in y) in
+    subst (λ (a : Walked). Says (listsOf m) Clear a)
+      (sym (absent-turn (view m) t clear (row-found (listsOf m) once) listed (suc (total (listsOf m))) s (s ∷ []) [] e ∙ walk-nil (suc (total (listsOf m))) (view m) t (s ∷ []))) says-clear
+
+-- a tag with a list is walked from its row
+pub wires-row : (m : Record) (target q : ℕ) (s : Tag) {l : List Place} {e : Ended} → Row (listsOf m) q s l → Walks m target q e → Wires m target s e
+wires-row m target q s {e = e} x h =
+    subst (λ (u : Tag). Says (listsOf m) e (walkFrom (view m) (tagAt (listsOf m) target) u)) (ap (λ (y : Tag × List Place). y .0) (x .entry ([], []))) h
+
+-- what an ending says
+pub said-clear : (lists : Table (List Place)) (e : Ended) (a : Walked) → Says lists e a → e ≡ Clear → a ≡ clear
+said-clear lists e a says-clear p = refl
+said-clear lists e a says-met p = absurd (let z : _≡_ {A = ℕ} 0 1 = cc in let y : ⊥ = omega arith in y)
+said-clear lists e a (says-gap x) p = absurd (let z : _≡_ {A = ℕ} 0 1 = cc in let y : ⊥ = omega arith in y)
+
+pub said-met : (lists : Table (List Place)) (e : Ended) (a : Walked) → Says lists e a → e ≡ Met → a ≡ met
+said-met lists e a says-met p = refl
+said-met lists e a says-clear p = absurd (let z : _≡_ {A = ℕ} 0 1 = cc in let y : ⊥ = omega arith in y)
+said-met lists e a (says-gap x) p = absurd (let z : _≡_ {A = ℕ} 0 1 = cc in let y : ⊥ = omega arith in y)
+
+pub said-gap : (lists : Table (List Place)) (e : Ended) (a : Walked) (r i : ℕ) → Says lists e a → e ≡ Gap r i → (t : Tag) × (l : List Place) × Row lists r t l × (a ≡ gapped t i)
+said-gap lists e a r i (says-gap {r = q} {i = j} {t = t} {l = l} x) p =
+    let qr : q ≡ r = cc in
+    let ji : j ≡ i = cc in
+    (t, l, subst (λ (n : ℕ). Row lists n t l) qr x, ap (gapped t) ji)
+said-gap lists e a r i says-clear p = absurd (let z : _≡_ {A = ℕ} 0 1 = cc in let y : ⊥ = omega arith in y)
+said-gap lists e a r i says-met p = absurd (let z : _≡_ {A = ℕ} 0 1 = cc in let y : ⊥ = omega arith in y)

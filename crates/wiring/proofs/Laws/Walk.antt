@@ -87,7 +87,7 @@ module _ (k : ℕ) (m : Model) (target t : Tag) (seen line : List Tag) (i : ℕ)
         (ap (λ (g : List Tag). walk k m target (g ++ seen) (line ++ g)) (fresh-new seen s (tags l) e) ∙ (walk-same k m target (s ∷ f ++ seen) (f ++ s ∷ seen) (λ x. sym (any-mid (is x) f s seen)) (line ++ s ∷ f)
           ∙ ap (walk k m target (f ++ s ∷ seen)) (sym (append-assoc line (s ∷ []) f))))
 
-walk-nil : (k : ℕ) (m : Model) (target : Tag) (seen : List Tag) → walk k m target seen [] ≡ clear
+pub walk-nil : (k : ℕ) (m : Model) (target : Tag) (seen : List Tag) → walk k m target seen [] ≡ clear
 unfolding walk
 walk-nil zero m target seen = refl
 walk-nil (suc k) m target seen = refl
@@ -147,7 +147,7 @@ pub record Scans (m : Model) (target : Tag) (a : Walked) (t : Tag) (i : ℕ) (l 
 module _ (m : Model) (target : Tag) (a : Walked) (found : (r : ℕ) (t : Tag) (l : List Place) → Row (m .lists) r t l → find t (m .lists) ≡ some l)
     (listed : find target (m .lists) ≢ none) where
   -- a tag without a list is not the target, and nothing joins the line at its turn
-  absent-turn : (k : ℕ) (t : Tag) (seen line : List Tag) → find t (m .lists) ≡ none → walk (suc k) m target seen (t ∷ line) ≡ walk k m target seen line
+  pub absent-turn : (k : ℕ) (t : Tag) (seen line : List Tag) → find t (m .lists) ≡ none → walk (suc k) m target seen (t ∷ line) ≡ walk k m target seen line
   absent-turn k t seen line e =
       turn-scan k m target t seen line (is-false t target (λ p. listed (ap (λ (x : Tag). find x (m .lists)) (sym p) ∙ e)))
         ∙ (ap (λ (o : Option (List Place)). scan k m target t seen line 0 (Option·getD o [])) e ∙ scan-end k m target t seen line 0)
