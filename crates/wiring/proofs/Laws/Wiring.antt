@@ -134,62 +134,59 @@ module _ (m : Record) (t u : Tag) (k : ℕ) (r : Edited) (v : passes m ≡ true)
 
     module _ (su : length u ≤ 32) (x : Label) (mx : Made (take 32 t) x) (y : Label) (my : Made (take 32 u) y)
         (f : Found) (p : Sought (componentsOf m) 64 (bytesOf x) f) where
-      lt : Labelled t x
-      lt = labelled st mx
+      lx : Labelled t x
+      lx = labelled st mx
 
-      lu : Labelled u y
-      lu = labelled su my
+      ly : Labelled u y
+      ly = labelled su my
 
       pub add-12 : f ≡ Nothing → Refused m 12 (bytesOf x) 0 r → Meets (addInput t u k) m r
       unfolding addWire view
       add-12 e z =
           onto (skip (overlong t) 1 empty 0 (short t st) (skip (overlong u) 1 empty 0 (short u su)
-            (stop (not (held t (componentsOf m))) 12 t 0 _ (ap not (free (sought-by lt p) e)) (carrying lt z))))
+            (stop (not (held t (componentsOf m))) 12 t 0 _ (ap not (free (sought-by lx p) e)) (carrying lx z))))
 
       module _ {i : ℕ} (e : f ≡ At i) (g : Found) (q : Sought (componentsOf m) 64 (bytesOf y) g) where
         pub add-12-source : g ≡ Nothing → Refused m 12 (bytesOf y) 0 r → Meets (addInput t u k) m r
         unfolding addWire view
         add-12-source n z =
             onto (skip (overlong t) 1 empty 0 (short t st) (skip (overlong u) 1 empty 0 (short u su)
-              (skip (not (held t (componentsOf m))) 12 t 0 (ap not (taken (sought-by lt p) e))
-              (stop (not (held u (componentsOf m))) 12 u 0 _ (ap not (free (sought-by lu q) n)) (carrying lu z)))))
+              (skip (not (held t (componentsOf m))) 12 t 0 (ap not (taken (sought-by lx p) e))
+              (stop (not (held u (componentsOf m))) 12 u 0 _ (ap not (free (sought-by ly q) n)) (carrying ly z)))))
 
         module _ {j : ℕ} (n : g ≡ At j) (h : Found) (o : Sought (listsOf m) 128 (bytesOf x) h) where
           into : (l : Option (List Place)) → list (view m) t ≡ l → Step (wireIn (view m) t u k l) m r → Meets (addInput t u k) m r
           unfolding addWire view
           into l a s =
               onto (skip (overlong t) 1 empty 0 (short t st) (skip (overlong u) 1 empty 0 (short u su)
-                (skip (not (held t (componentsOf m))) 12 t 0 (ap not (taken (sought-by lt p) e)) (skip (not (held u (componentsOf m))) 12 u 0 (ap not (taken (sought-by lu q) n))
+                (skip (not (held t (componentsOf m))) 12 t 0 (ap not (taken (sought-by lx p) e)) (skip (not (held u (componentsOf m))) 12 u 0 (ap not (taken (sought-by ly q) n))
                 (subst (λ (b : Option (List Place)). Step (wireIn (view m) t u k b) m r) (sym a) s)))))
 
           pub add-12-list : h ≡ Nothing → Refused m 12 (bytesOf x) 0 r → Meets (addInput t u k) m r
-          add-12-list a z = into none (list-none m v t h (sought-by lt o) a) (refusal (carrying lt z))
+          add-12-list a z = into none (list-none m v t h (sought-by lx o) a) (refusal (carrying lx z))
 
           module _ (c : ℕ) (a : h ≡ At c) (d : InputList) where
-            ps : List Place
-            ps = rows placeOf (getD (m .lists) c d .count) (getD (m .lists) c d .places)
-
             pub add-3 : length (rows placeOf (getD (m .lists) c d .count) (getD (m .lists) c d .places)) ≤ k → Refused m 3 (bytesOf x) k r → Meets (addInput t u k) m r
             add-3 b z =
                 let ps = rows placeOf (getD (m .lists) c d .count) (getD (m .lists) c d .places) in
-                into (some ps) (list-some m v t h (sought-by lt o) c a d) (stop (leb (length ps) k) 3 t k _ (le-leb (length ps) k b) (carrying lt z))
+                into (some ps) (list-some m v t h (sought-by lx o) c a d) (stop (leb (length ps) k) 3 t k _ (le-leb (length ps) k b) (carrying lx z))
 
             -- then the walk
             module _ (b : k < length (rows placeOf (getD (m .lists) c d .count) (getD (m .lists) c d .places))) (w : Ended) (s : Wires m c (bytesOf y) w) where
               same : walkFrom (view m) (tagAt (listsOf m) c) (bytesOf y) ≡ walkFrom (view m) t u
               same = ap (λ (z : Tag × Tag). walkFrom (view m) (z .0) (z .1))
-                  (λ j. ((ap (λ (z : Tag × List Place). z .0) (sought-row (sought-by lt o) a .entry ([], []))) j, lu .bytes j))
+                  (λ j. ((ap (λ (z : Tag × List Place). z .0) (sought-row (sought-by lx o) a .entry ([], []))) j, ly .bytes j))
 
               after : (z : Walked) → walkFrom (view m) (tagAt (listsOf m) c) (bytesOf y) ≡ z
                   → Step (walked (view m) t (record { answer = done; model = wired (view m) t (set (rows placeOf (getD (m .lists) c d .count) (getD (m .lists) c d .places)) k (some u)) }) z) m r
                   → Meets (addInput t u k) m r
               after z q s =
                   let ps = rows placeOf (getD (m .lists) c d .count) (getD (m .lists) c d .places) in
-                  into (some ps) (list-some m v t h (sought-by lt o) c a d) (skip (leb (length ps) k) 3 t k (lt-leb (length ps) k b)
+                  into (some ps) (list-some m v t h (sought-by lx o) c a d) (skip (leb (length ps) k) 3 t k (lt-leb (length ps) k b)
                     (subst (λ (x : Walked). Step (walked (view m) t (record { answer = done; model = wired (view m) t (set ps k (some u)) }) x) m r) (sym q ∙ same) s))
 
               pub add-14 : w ≡ Met → Refused m 14 (bytesOf x) 0 r → Meets (addInput t u k) m r
-              add-14 q z = after met (said-met (listsOf m) w _ s q) (refusal (carrying lt z))
+              add-14 q z = after met (said-met (listsOf m) w _ s q) (refusal (carrying lx z))
 
               pub add-13 : (n i : ℕ) → w ≡ Gap n i → (d : InputList) → Refused m 13 (bytesOf (getD (m .lists) n d .tag)) i r → Meets (addInput t u k) m r
               add-13 n i q d z =
@@ -201,7 +198,7 @@ module _ (m : Record) (t u : Tag) (k : ℕ) (r : Edited) (v : passes m ≡ true)
               pub add-done : w ≡ Clear → Ends done (withList m c (placedAt (getD (m .lists) c d) k (record { assigned = true; tag = y }))) r → Meets (addInput t u k) m r
               add-done q z =
                   after clear (said-clear (listsOf m) w _ s q)
-                    (placed-done m v t h (sought-by lt o) c a d k b (record { assigned = true; tag = y }) (some u) (assigned lu) (assigned-fits lu) z)
+                    (placed-done m v t h (sought-by lx o) c a d k b (record { assigned = true; tag = y }) (some u) (assigned ly) (assigned-fits ly) z)
 
 -- the row of a gap is one of the table's
 pub gap-below : (m : Record) (c : ℕ) (u : Tag) (w : Ended) (n i : ℕ) → passes m ≡ true → Wires m c u w → w ≡ Gap n i → n < 128
