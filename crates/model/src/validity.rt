@@ -104,20 +104,20 @@ fn lists_distinct(m: Model) -> bool
 {
     let n = lists_held(m);
     let mut i: usize = 0;
-    let mut j: usize = 1;
+    let mut k: usize = 1;
     while i < n {
-        if j < n {
+        if k < n {
             let a = m.lists[i];
-            let b = m.lists[j];
+            let b = m.lists[k];
             let s = a.tag;
             let t = b.tag;
             if tag::same_tag(t, s) {
                 return false;
             }
-            j += 1;
+            k += 1;
         } else {
             i += 1;
-            j = i + 1;
+            k = i + 1;
         }
     }
     true
@@ -149,7 +149,8 @@ fn components_sound(m: Model) -> bool
             let l = m.lists[j];
             let s = l.tag;
             if tag::same_tag(s, t) {
-                if places_held(l) != takes {
+                let places = places_held(l);
+                if places != takes {
                     return false;
                 }
                 i += 1;

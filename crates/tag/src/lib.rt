@@ -4,7 +4,6 @@ pub mod numbered;
 pub mod order;
 
 ghost use mathlib.Core.Path.{_≡_};
-ghost use mathlib.Core.List.{[]};
 ghost use Prim.Native.Nat.{min};
 ghost use lib.ListN.{take};
 ghost use Rattle.tag.specs.Tags.{is, empty};

@@ -4,12 +4,12 @@ use mathlib.Core.Logic.{_⊎_, inl, inr, _≢_}
 use mathlib.Core.Bool.{Bool, true, false}
 use mathlib.Core.List.{[], _∷_, _++_}
 use mathlib.Core.Option.{Option, none, some, Option·map}
-use Prim.Native.Nat.{ℕ, zero, suc, _+_, _-_, _<_, _≤_}
+use Prim.Native.Nat.{ℕ, zero, suc, _+_, _-_, _<_}
 use native.Mathlib.Nat.{not-suc-le-zero, le-of-suc-le-suc}
 use native.Mathlib.Omega.{arith}
 use lib.Dec.{T, eqb}
-use lib.ListN.{take, length, getD, set, length-set, length-take, length-append}
-use lib.Seq.{getD-set-same, getD-set-other, getD-take, getD-append-seam}
+use lib.ListN.{take, length, getD, set, length-set, length-take}
+use lib.Seq.{getD-set-same, getD-set-other, getD-take}
 use borrow.Author.Tests.{eqb-true, eqb-false}
 use Rattle.tag.specs.Tags.{Tag}
 use Rattle.tag.proofs.Laws.Same.{same?}

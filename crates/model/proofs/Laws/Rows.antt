@@ -1,13 +1,12 @@
 -- Live rows: one row passed, stored, appended, taken off. Assumes nothing.
 use mathlib.Core.Path.{_≡_, refl, sym, _∙_, ap}
-use mathlib.Core.Bool.{Bool, true, false, _&&_, cond}
+use mathlib.Core.Bool.{Bool, true, false}
 use mathlib.Core.List.{List, [], _∷_, _++_, map}
 use Prim.Native.Nat.{ℕ, zero, suc, _+_, _-_, _<_, _≤_, min}
 use native.Mathlib.Numerals.{add-one}
-use native.Mathlib.Nat.{not-suc-le-zero, le-of-suc-le-suc}
 use native.Mathlib.Omega.{arith}
 use lib.ListN.{take, drop, length, getD, set, length-take, length-map, List·getD-map, drop-of-length-le}
-use lib.Seq.{drop-cons, getD-take, take-set-lt, take-suc-set, take-take, take-nil}
+use lib.Seq.{drop-cons, getD-take, take-set-lt, take-suc-set, take-take}
 use lib.Ieee.{nan}
 use Rattle.tag.specs.declared.Tag.{Tag as Label}
 use Rattle.component.specs.declared.model_component.Component.the-variants.{Constant}

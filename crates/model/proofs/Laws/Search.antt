@@ -1,13 +1,13 @@
 -- A search by tag. Assumes nothing.
 use mathlib.Core.Path.{_≡_, refl, sym, _∙_, ap}
-use mathlib.Core.Bool.{Bool, true, false, _&&_, _||_, cond}
-use mathlib.Core.List.{List, [], _∷_, _++_, map}
-use mathlib.Core.Option.{Option, none, some}
-use Prim.Native.Nat.{ℕ, zero, suc, _+_, _-_, _<_, _≤_, min}
+use mathlib.Core.Bool.{Bool, true, false, _||_, cond}
+use mathlib.Core.List.{List, [], _∷_}
+use mathlib.Core.Option.{some}
+use Prim.Native.Nat.{ℕ, suc, _+_, _-_, _<_, _≤_}
 use native.Mathlib.Numerals.{add-one}
-use native.Mathlib.Nat.{sub-zero, zero-add}
+use native.Mathlib.Nat.{sub-zero}
 use native.Mathlib.Omega.{arith}
-use lib.ListN.{take, drop, length, getD, set, drop-of-length-le}
+use lib.ListN.{drop, length, getD, drop-of-length-le}
 use Rattle.tag.specs.Tags.{Tag, is}
 use Rattle.tag.proofs.Laws.Is.{is-true}
 use Rattle.model.specs.declared.find.Found.{Found}

@@ -2,7 +2,6 @@
 use mathlib.Core.Path.{_≡_, refl, sym, _∙_, ap, subst}
 use mathlib.Core.List.{List, [], _∷_, map, List·Memᴰ, List·Memᴰ·head, List·Memᴰ·tail}
 use mathlib.Core.Option.{Option, none, some, Option·getD}
-use Prim.Native.Nat.{ℕ}
 use lib.Ieee.{Float}
 use Rattle.tag.specs.Tags.{Tag}
 use Rattle.geometry.specs.declared.vec3f.Vec3.{Vec3}
@@ -77,7 +76,7 @@ module _ {f : Tag → Tag} {m n : Model} {t : Tag} (c : Carries f m t n) where
     pub number-carried : {p : Vec3} {a : Tag} {x : Float} → Number m p a x → Reach m t a → Number n p (f a) x
     number-carried {p} {a} (worked k xs e ns q) r =
         worked k xs (c .components a r ∙ e)
-          (subst (λ (l : List Place). Numbers n p l xs) (sym (c .places a r)) (numbers-carried ns (λ b w. along r w))) q
+        (subst (λ (l : List Place). Numbers n p l xs) (sym (c .places a r)) (numbers-carried ns (λ b w. along r w))) q
 
     numbers-carried : {p : Vec3} {l : List Place} {xs : List Float} → Numbers m p l xs → ((b : Tag) → List·Memᴰ (some b) l → Reach m t b)
         → Numbers n p (map (retag f) l) xs

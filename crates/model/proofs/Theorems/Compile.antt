@@ -6,15 +6,16 @@ use mathlib.Core.List.{List, [], _∷_, List·Memᴰ, List·Memᴰ·head, List·
 use mathlib.Core.Option.{Option, none, some}
 use Prim.Native.Nat.{ℕ, suc}
 use lib.Dec.{T, T-not}
+use lib.ListN.{length}
 use Rattle.tag.specs.Tags.{Tag, overlong}
 use Rattle.component.specs.declared.model_component.Component.{Component}
 use Rattle.model.specs.Model.{Place, Model, component, inputs, valid}
 use Rattle.model.specs.Walk.{gap}
 use Rattle.model.specs.Form.{Reach, here, Cyclic, Absent, Gapped, Compiles, Least, Refuses, invalid, long, cyclic, absent, gapped, Order, Compiling, ordered, stopped, Compiled, order, refusal}
-use Rattle.model.proofs.Laws.Valid.{some-some, none-some, valid-short}
+use Rattle.model.proofs.Laws.Valid.{none-some, valid-short}
 use Rattle.model.proofs.Laws.Once.{mem?}
 use Rattle.model.proofs.Laws.Least.{least-unique, least-or-none}
-use Rattle.model.proofs.Theorems.Order.{cycle-or-order, order-acyclic}
+use Rattle.model.proofs.Theorems.Order.{cycle-or-order, order-acyclic, order-count}
 
 -- ---- one refusal at most
 
@@ -72,6 +73,13 @@ compiled-unique (refusal x) (refusal y) = refuses-unique x y
 compiled-unique (refusal x) (order v w c o) = absurd (not-refused v c x)
 compiled-unique (order v w c o) (refusal x) = absurd (not-refused v c x)
 compiled-unique (order v w c o) (order x y d k) = refl
+
+-- and one count: the size of the reach, or 0 where it is refused
+pub compiled-count : {m : Model} {t : Tag} {r s : Compiling} {o k : List Tag} → Compiled m t r o → Compiled m t s k → length o ≡ length k
+compiled-count (refusal x) (refusal y) = refl
+compiled-count (refusal x) (order v w c o) = absurd (not-refused v c x)
+compiled-count (order v w c o) (refusal x) = absurd (not-refused v c x)
+compiled-count (order v w c o) (order x y d k) = order-count o k
 
 -- ---- compile has an answer
 

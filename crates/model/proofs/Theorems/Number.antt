@@ -1,13 +1,13 @@
 -- Document 01's form's number: a form that compiles has one at every point, and only one. Assumes nothing.
 use mathlib.Core.Path.{_≡_, refl, ap₂, subst}
 use mathlib.Core.Logic.{_⊎_, inl, inr}
-use mathlib.Core.List.{List, [], _∷_, _++_, List·Memᴰ, List·Memᴰ·head, List·Memᴰ·tail, List·Memᴰ·append-cases, List·Memᴰ·eq-of-singleton, Memᴰ·append-left, Memᴰ·append-right}
+use mathlib.Core.List.{List, [], _∷_, List·Memᴰ, List·Memᴰ·head, List·Memᴰ·tail, List·Memᴰ·append-cases, List·Memᴰ·eq-of-singleton, Memᴰ·append-left}
 use mathlib.Core.Option.{Option, none, some}
 use lib.Ieee.{Float}
 use Rattle.tag.specs.Tags.{Tag}
 use Rattle.geometry.specs.declared.vec3f.Vec3.{Vec3}
 use Rattle.model.specs.Model.{Place, Model, component, inputs}
-use Rattle.model.specs.Form.{Wire, Reach, here, Cyclic, Compiles, Placed, start, then, Order, value, Number, worked, Numbers, nothing, another}
+use Rattle.model.specs.Form.{Wire, here, Cyclic, Compiles, Placed, start, then, Order, value, Number, worked, Numbers, nothing, another}
 use Rattle.model.proofs.Theorems.Order.{cycle-or-order}
 
 -- ---- one number at most

@@ -1,24 +1,22 @@
 -- Document 01's order: a target closes a cycle or has an order, and not both; every order of a target is as long as its reach is large. Assumes nothing.
-use mathlib.Core.Path.{_≡_, refl, sym, _∙_, ap, subst}
+use mathlib.Core.Path.{_≡_, refl, sym, subst}
 use mathlib.Core.Logic.{_⊎_, inl, inr, _↔_}
 use mathlib.Core.List.{List, [], _∷_, _++_, List·Memᴰ, List·Memᴰ·head, List·Memᴰ·tail, List·Memᴰ·cases-cons, List·Memᴰ·not-nil, List·Memᴰ·append-cases, List·Memᴰ·eq-of-singleton, Memᴰ·append-left, Memᴰ·append-right, Memᴰ·cast}
 use mathlib.Core.Option.{Option, none, some, Option·getD}
-use Prim.Native.Nat.{ℕ, zero, suc, _+_, _≤_, _<_}
+use Prim.Native.Nat.{ℕ, zero, suc, _+_, _<_}
 use native.Mathlib.Omega.{arith}
 use native.Mathlib.Nat.{le-antisymm}
 use lib.ListN.{length}
 use Rattle.tag.specs.Tags.{Tag}
-use Rattle.model.specs.Table.{find}
-use Rattle.model.specs.Model.{Place, Model, list, inputs}
+use Rattle.model.specs.Model.{Place, Model, component, inputs}
 use Rattle.model.specs.Walk.{tags}
-use Rattle.model.specs.Form.{Wire, Reach, here, along, Cyclic, Placed, start, then, Order}
-use Rattle.model.proofs.Laws.Valid.{some-some}
+use Rattle.model.specs.Form.{Wire, Reach, here, along, Cyclic, Compiles, Placed, start, then, Order}
 use Rattle.model.proofs.Laws.Once.{Once, no-tag, one-more, mem?, once-le, keys, keys-length, find-key}
 use Rattle.model.proofs.Laws.Reach.{wire-named, named-wire, reach-on, Over, over-next, placed-once, placed-closed, placed-acyclic}
 
 -- ---- the count is the size of the reach
 
--- The list holds every reached tag once, and no other: its length is the size of the reach.
+-- The list holds every reached tag once and no other, so that its length is the size of the reach.
 pub record Holds (m : Model) (t : Tag) (l : List Tag) : Type 0 where
   pub once : Once l
   pub exactly : (a : Tag) → List·Memᴰ a l ↔ Reach m t a
@@ -39,6 +37,15 @@ order-count o k = one-size (order-holds o) (order-holds k)
 
 pub order-acyclic : {m : Model} {t : Tag} {o : List Tag} → Order m t o → ¬ Cyclic m t
 order-acyclic o c = placed-acyclic (o .placed) (o .all (c .tag) (c .reached)) (c .wire) (c .back)
+
+-- what an order covers compiles, if each tag has a component and no gap
+pub order-compiles : {m : Model} {t : Tag} {o : List Tag} → Placed m o → List·Memᴰ t o → ((a : Tag) → List·Memᴰ a o → ¬ (component m a ≡ none))
+    → ((a : Tag) → List·Memᴰ a o → ¬ List·Memᴰ none (inputs m a)) → Compiles m t
+order-compiles p i there full = record {
+  acyclic = λ c. placed-acyclic p (placed-closed p i (c .reached)) (c .wire) (c .back);
+  present = λ a x. there a (placed-closed p i (x .0)) (x .1);
+  assigned = λ a x. full a (placed-closed p i (x .0)) (x .1);
+}
 
 -- ---- without a cycle there is an order: tags are placed depth first, each after its inputs
 
@@ -137,9 +144,9 @@ module _ (m : Model) (t : Tag) where
   below zero a above lt r new once listed over o p = absurd (omega (arith, once-le once listed, keys-length (m .lists)))
   below (suc k) a above lt r new once listed over o p =
       each (tags (inputs m a)) (λ b i o p.
-        let w = named-wire (inputs m a) i in
-        enter (along r w) (over-next w over) (mem? b (a ∷ above)) (λ n.
-          below k b (a ∷ above) (omega arith) (along r w) n (one-more new once) (with-key w) (over-next w over) o p)) o p
+      let w = named-wire (inputs m a) i in
+      enter (along r w) (over-next w over) (mem? b (a ∷ above)) (λ n.
+      below k b (a ∷ above) (omega arith) (along r w) n (one-more new once) (with-key w) (over-next w over) o p)) o p
     where
       with-key : {b : Tag} → Wire m a b → (d : Tag) → List·Memᴰ d (a ∷ above) → List·Memᴰ d (keys (m .lists))
       with-key w d (List·Memᴰ·head e) = Memᴰ·cast e (wire-key w)
@@ -164,13 +171,38 @@ module _ (m : Model) (t : Tag) where
           at (yes i) = let x = from (f .only t i) in inl (record { tag = t; next = x .0; reached = here; wire = x .1; back = x .2 })
           at (no n) =
               let p = then (f .placed) n (λ b w. f .named b (wire-named (inputs m t) w)) in
-              inr (f .order ++ t ∷ [], record {
-                placed = p;
-                reached = λ b i. reached (List·Memᴰ·append-cases (f .order) i);
-                all = λ b r. placed-closed p (Memᴰ·append-right (f .order) (List·Memᴰ·head refl)) r;
-                last = (f .order, refl);
-              })
+              inr (
+                f .order ++ t ∷ [],
+                record {
+                  placed = p;
+                  reached = λ b i. reached (List·Memᴰ·append-cases (f .order) i);
+                  all = λ b r. placed-closed p (Memᴰ·append-right (f .order) (List·Memᴰ·head refl)) r;
+                  last = (f .order, refl);
+                },
+              )
 
       go : Cyclic m t ⊎ Followed m (tags (inputs m t)) [] → Cyclic m t ⊎ ((o : List Tag) × Order m t o)
       go (inl c) = inl c
       go (inr f) = ending f
+
+-- ---- a sort that stops early stops at a cycle
+
+module _ {m : Model} (l : List Tag) (more : (a : Tag) → List·Memᴰ a l → (b : Tag) × List·Memᴰ b l × Wire m a b) where
+  -- the first of them that is placed has an input among them, placed ahead of it
+  never-placed : {o : List Tag} {a : Tag} → Placed m o → List·Memᴰ a o → ¬ List·Memᴰ a l
+  never-placed start i j = elim i [ ]
+  never-placed {a = a} (then {o = o} {a = d} p n k) i j = go (λ b x y. never-placed {a = b} p x y) (List·Memᴰ·append-cases o i)
+    where
+      go : ((b : Tag) → List·Memᴰ b o → ¬ List·Memᴰ b l) → List·Memᴰ a o ⊎ List·Memᴰ a (d ∷ []) → ⊥
+      go ih (inl x) = ih a x j
+      go ih (inr x) =
+          let b = more a j in
+          ih (b .0) (k (b .0) (subst (λ (y : Tag). Wire m y (b .0)) (List·Memᴰ·eq-of-singleton x) (b .2))) (b .1)
+
+  -- reached tags each of which has an input among them close a cycle
+  pub stuck-cyclic : {t a : Tag} → Reach m t a → List·Memᴰ a l → Cyclic m t
+  stuck-cyclic {t} {a} r i = go (cycle-or-order m a)
+    where
+      go : Cyclic m a ⊎ ((o : List Tag) × Order m a o) → Cyclic m t
+      go (inl c) = record { tag = c .tag; next = c .next; reached = reach-on r (c .reached); wire = c .wire; back = c .back }
+      go (inr (o, k)) = absurd (never-placed (k .placed) (k .all a here) i)

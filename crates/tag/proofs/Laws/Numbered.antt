@@ -1,20 +1,20 @@
 -- Numbered tags: each number makes another, and whether one fits. Assumes nothing.
-use mathlib.Core.Path.{_≡_, refl, sym, _∙_, ap}
-use mathlib.Core.Bool.{Bool, true, false, not, cond}
-use mathlib.Core.List.{List, [], _∷_, _++_, append-assoc, append-nil, append-cancel-left, tail-eq-of-cons-eq}
-use Prim.Native.Nat.{ℕ, suc, _+_, _-_, _/_, _%_, _<_, _≤_, min}
+use mathlib.Core.Path.{_≡_, sym, _∙_, ap}
+use mathlib.Core.Bool.{true, false, cond}
+use mathlib.Core.List.{[], _∷_, _++_, append-assoc, append-cancel-left, tail-eq-of-cons-eq}
+use Prim.Native.Nat.{ℕ, _+_, _/_, _%_, _<_, _≤_, min}
 use native.Mathlib.Omega.{arith}
 use native.Mathlib.Numerals.{add-one}
-use lib.Dec.{ltb, leb}
-use lib.ListN.{take, drop, length, set, length-append, length-take}
+use lib.Dec.{leb}
+use lib.ListN.{take, length, set, length-append, length-take}
 use lib.Seq.{take-all, take-append-le, take-suc-set}
 use borrow.Author.Tests.{lt-ltb, le-ltb, le-leb, not-true}
 use Rattle.tag.specs.declared.Tag.{Tag as Label}
 use Rattle.tag.specs.declared.numbered.Numbered.{Numbered}
 use Rattle.tag.specs.Tags.{Tag, overlong, decimal, numbered}
-use Rattle.tag.specs.View.{bytesOf, tagFits, Labelled, Made}
+use Rattle.tag.specs.View.{bytesOf, tagFits, Made}
 use Rattle.tag.specs.Fitted.{Fitted}
-use Rattle.tag.proofs.Laws.View.{short-length, length-short, short-whole, made-whole, bytesOf-length, bytesOf-short, bytesOf-clamped, fits-len, rest-zero}
+use Rattle.tag.proofs.Laws.View.{made-whole, bytesOf-short, bytesOf-clamped, labelled-len, rest-zero}
 use Rattle.tag.proofs.Laws.Digits.{decimal-injective, decimal-length, decimal-positive, four-digits}
 
 pub numbered-injective : (t : Tag) (j k : ℕ) → j < 10000 → k < 10000 → numbered t j ≡ numbered t k → j ≡ k
@@ -39,11 +39,7 @@ fitted-yes t n f e = not-true (overlong t) (sym (f .fits) ∙ e)
 
 module _ (t : Tag) (n : Numbered) (b : ℕ) (size : length (n .tag .bytes) ≡ 32) (f : Fitted t n) where
   held : n .tag .len ≡ min 32 (length t)
-  held =
-      let l : length (bytesOf (n .tag)) ≡ min (n .tag .len) 32 = bytesOf-length (n .tag) size in
-      let k : n .tag .len ≤ 32 = fits-len (n .tag) (f .made .labelled .short) in
-      let e : length (bytesOf (n .tag)) ≡ length (take 32 t) = ap length (f .made .labelled .bytes) in
-      omega (arith, length-take 32 t)
+  held = labelled-len (take 32 t) (n .tag) size (f .made .labelled) ∙ length-take 32 t
 
   pub push-full : 32 ≤ n .tag .len → Fitted (t ++ (b ∷ [])) (record { fits = false; tag = n .tag })
   unfolding overlong

@@ -1,6 +1,6 @@
 -- Two byte strings compared byte by byte from the front: what `is` and `before` say of what is left at an index. Assumes nothing.
 use mathlib.Core.Path.{_≡_, refl, ap}
-use mathlib.Core.Bool.{true, false, _&&_, and-false, or-false}
+use mathlib.Core.Bool.{true, false, and-false, or-false}
 use mathlib.Core.List.{[], _∷_}
 use Prim.Native.Nat.{ℕ, suc, _+_, _<_, _≤_, min}
 use native.Mathlib.Omega.{arith}

@@ -1,14 +1,13 @@
 -- The bytes of a tag's record, and a record made of bytes. Assumes nothing.
-use mathlib.Core.Path.{_≡_, refl, sym, _∙_, ap}
+use mathlib.Core.Path.{_≡_, sym, _∙_, ap, ap₂}
 use mathlib.Core.Bool.{true, false}
 use mathlib.Core.List.{List, [], _∷_, _++_}
-use Prim.Native.Nat.{ℕ, zero, suc, _+_, _-_, _<_, _≤_, min}
+use Prim.Native.Nat.{ℕ, suc, _+_, _-_, _<_, _≤_, min}
 use native.Mathlib.Omega.{arith}
 use native.Mathlib.Decide.{decLe}
 use native.Mathlib.Numerals.{add-one}
-use lib.Dec.{ltb, leb}
-use lib.ListN.{take, drop, length, getD, set, replicate, length-take}
-use lib.Seq.{drop-cons, drop-drop, drop-set-lt, getD-take, take-suc-set, take-suc, take-all}
+use lib.ListN.{take, drop, length, getD, set, replicate, length-take, take-append-drop}
+use lib.Seq.{drop-drop, drop-set-lt, getD-take, take-suc-set, take-suc, take-all}
 use borrow.Author.Tests.{le-leb, leb-true, le-ltb, ltb-false}
 use Rattle.tag.specs.declared.Tag.{Tag as Label}
 use Rattle.tag.specs.Tags.{Tag, overlong}
@@ -56,6 +55,22 @@ module _ (t : Label) (size : length (t .bytes) ≡ 32) where
 pub fits-len : (t : Label) → tagFits t ≡ true → t .len ≤ 32
 unfolding tagFits
 fits-len t h = leb-true (t .len) 32 h
+
+module _ (t : Tag) (r : Label) (size : length (r .bytes) ≡ 32) where
+  pub labelled-len : Labelled t r → r .len ≡ length t
+  labelled-len l = omega (arith, bytesOf-length r size, fits-len r (l .short), ap length (l .bytes))
+
+  pub labelled-short : Labelled t r → overlong t ≡ false
+  labelled-short l = rw (l .bytes) at (bytesOf-short r size)
+
+  -- one record alone is made of bytes
+  pub made-is : Made t r → r ≡ record { bytes = t ++ replicate (32 - length t) 0; len = length t }
+  unfolding bytesOf
+  made-is m =
+      let e = labelled-len (m .labelled) in
+      let whole : r .bytes ≡ t ++ replicate (32 - length t) 0 =
+      sym (take-append-drop (r .len) (r .bytes)) ∙ ap₂ _++_ (m .labelled .bytes) (m .padded ∙ ap (λ (n : ℕ). replicate (32 - n) 0) e) in
+      ap₂ {C = Label} (λ (b : List ℕ) (n : ℕ). record { bytes = b; len = n }) whole e
 
 -- ---- bytes stored one after the other
 

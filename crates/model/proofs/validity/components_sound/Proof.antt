@@ -1,6 +1,6 @@
 -- `model::validity::components_sound` meets its contract: one row by `Laws/Passes.antt`, the two indices by `Laws/Pairs.antt`. Assumes nothing.
 use Prim.Native.Nat.{ℕ, _+_, _*_, _<_, _≤_, _-_}
-use mathlib.Core.Path.{_≡_, refl, sym, _∙_, ap}
+use mathlib.Core.Path.{_≡_, sym, _∙_}
 use mathlib.Core.Bool.{Bool}
 use mathlib.Core.List.{List, _∷_}
 use native.Mathlib.Omega.{arith}

@@ -1,7 +1,7 @@
 -- `model::validity::default_sound` meets its contract: `Laws/Passes.antt`. Assumes nothing.
 use native.Mathlib.Omega.{arith}
 use borrow.Author.Needs.{needs}
-use mathlib.Core.Path.{_≡_, refl, sym, ap, _∙_}
+use mathlib.Core.Path.{sym, _∙_}
 use Rattle.model.specs.View.{componentsOf}
 use Rattle.model.proofs.Laws.Passes.{default-none, default-long, default-found, default-missing}
 use Rattle.model.proofs.validity.default_sound.Statement.{statement}

@@ -9,11 +9,11 @@ use Rattle.model.proofs.validity.lists_distinct.Statement.{statement}
 use Rattle.model.proofs.validity.lists_distinct.Tie as tie
 
 abbrev Inv-loop : tie.InvT-loop
-Inv-loop m n i₀ j₀ i j = (i ≤ n) × (j ≤ n + 1) × Apart (listsOf m) i j
+Inv-loop m n i₀ k₀ i k = (i ≤ n) × (k ≤ n + 1) × Apart (listsOf m) i k
 
--- j starts anew at each i
+-- k starts anew at each i
 abbrev μ-loop : tie.MeasureT-loop
-μ-loop m n i₀ j₀ i j = (128 - i) * 130 + (130 - j)
+μ-loop m n i₀ k₀ i k = (128 - i) * 130 + (130 - k)
 
 lists-held-requires : tie.Need-lists-held-requires Inv-loop μ-loop
 lists-held-requires c κs = search needs
@@ -41,11 +41,11 @@ returns c =
     let l = c .before .before .before .before .before .before .before .before in
     let m = l .before .before .args .t1 in
     let row-i = rows-next listOf (m .lists) (m .«list_count») (l .loop .i) _ (omega arith) in
-    let row-j = rows-next listOf (m .lists) (m .«list_count») (l .loop .j) _ (omega arith) in
-    apart-pair (listsOf m) (l .loop .i) (l .loop .j) (l .loop .inv .2) _ row-i _ row-j _ (c .before .same-tag .ensures) (c .if2 .taken)
+    let row-k = rows-next listOf (m .lists) (m .«list_count») (l .loop .k) _ (omega arith) in
+    apart-pair (listsOf m) (l .loop .i) (l .loop .k) (l .loop .inv .2) _ row-i _ row-k _ (c .before .same-tag .ensures) (c .if2 .taken)
 
-add-j : tie.Need-add-j Inv-loop μ-loop
-add-j c = omega arith
+add-k : tie.Need-add-k Inv-loop μ-loop
+add-k c = omega arith
 
 loop-less : tie.Need-loop-less Inv-loop μ-loop
 loop-less c = omega arith
@@ -55,17 +55,17 @@ loop-again c =
     let l = c .before .before .before .before .before .before .before .before in
     let m = l .before .before .args .t1 in
     let row-i = rows-next listOf (m .lists) (m .«list_count») (l .loop .i) _ (omega arith) in
-    let row-j = rows-next listOf (m .lists) (m .«list_count») (l .loop .j) _ (omega arith) in (
+    let row-k = rows-next listOf (m .lists) (m .«list_count») (l .loop .k) _ (omega arith) in (
       omega arith,
       omega arith,
-      apart-on (listsOf m) (l .loop .i) (l .loop .j) (l .loop .inv .2) _ row-i _ row-j _ (c .before .same-tag .ensures) (c .if2 .left),
+      apart-on (listsOf m) (l .loop .i) (l .loop .k) (l .loop .inv .2) _ row-i _ row-k _ (c .before .same-tag .ensures) (c .if2 .left),
     )
 
 add-i : tie.Need-add-i Inv-loop μ-loop
 add-i c = omega arith
 
-add-j-2 : tie.Need-add-j-2 Inv-loop μ-loop
-add-j-2 c = omega arith
+add-k-2 : tie.Need-add-k-2 Inv-loop μ-loop
+add-k-2 c = omega arith
 
 loop-less-2 : tie.Need-loop-less-2 Inv-loop μ-loop
 loop-less-2 c = omega arith
@@ -74,12 +74,12 @@ loop-again-2 : tie.Need-loop-again-2 Inv-loop μ-loop
 loop-again-2 c =
     let l = c .before .before in
     let m = l .before .before .args .t1 in
-    (omega arith, omega arith, apart-next (listsOf m) (l .loop .i) (l .loop .j) (l .loop .inv .2) (omega arith) (omega arith))
+    (omega arith, omega arith, apart-next (listsOf m) (l .loop .i) (l .loop .k) (l .loop .inv .2) (omega arith) (omega arith))
 
 returns-2 : tie.Need-returns-2 Inv-loop μ-loop
 returns-2 c =
     let l = c .before in
-    apart-end (listsOf (l .before .before .args .t1)) (l .loop .i) (l .loop .j) (l .loop .inv .2) (omega arith)
+    apart-end (listsOf (l .before .before .args .t1)) (l .loop .i) (l .loop .k) (l .loop .inv .2) (omega arith)
 
 pub lists-distinct-spec : {M : Type 1} → statement M
 lists-distinct-spec =
@@ -95,11 +95,11 @@ lists-distinct-spec =
     element-copy-out-b
     same-tag-requires
     returns
-    add-j
+    add-k
     loop-less
     loop-again
     add-i
-    add-j-2
+    add-k-2
     loop-less-2
     loop-again-2
     returns-2)

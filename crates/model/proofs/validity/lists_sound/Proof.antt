@@ -1,9 +1,9 @@
 -- `model::validity::lists_sound` meets its contract. Assumes nothing.
-use Prim.Native.Nat.{ℕ, _≤_, _-_, min}
-use mathlib.Core.Path.{_≡_, refl, sym, ap, _∙_}
+use Prim.Native.Nat.{_≤_, _-_}
+use mathlib.Core.Path.{_≡_, refl, sym, _∙_}
 use native.Mathlib.Omega.{arith}
 use borrow.Author.Needs.{needs}
-use lib.ListN.{length, drop, getD}
+use lib.ListN.{drop}
 use Rattle.model.specs.View.{rows, every, listOf}
 use Rattle.model.specs.Search.{listSound}
 use Rattle.model.proofs.Laws.Rows.{rows-next, rows-length, every-hit, every-miss, every-end}

@@ -1,6 +1,4 @@
 -- `model::validity::place_fits` meets its contract. Assumes nothing.
-use mathlib.Core.Path.{_≡_, refl, sym, ap, _∙_}
-use borrow.Author.Needs.{needs}
 use Rattle.tag.specs.View.{tagFits}
 use Rattle.model.specs.View.{placeFits}
 use Rattle.model.proofs.validity.place_fits.Statement.{statement}

@@ -1,0 +1,16 @@
+-- `geometry::vec3f::Vec3::distance_to_vec3` meets its contract. Assumes nothing.
+use borrow.Author.Needs.{needs}
+use Rattle.geometry.proofs.vec3f.Vec3.distance_to_vec3.Statement.{statement}
+use Rattle.geometry.proofs.vec3f.Vec3.distance_to_vec3.Tie as tie
+
+distance-to-vec3-squared-requires : tie.Need-distance-to-vec3-squared-requires
+distance-to-vec3-squared-requires c κs = search needs
+
+root-requires : tie.Need-root-requires
+root-requires c κs = search needs
+
+returns : tie.Need-returns
+returns c = cc
+
+pub distance-to-vec3-spec : {M : Type 1} → statement M
+distance-to-vec3-spec = tie.close (tie.spec distance-to-vec3-squared-requires root-requires returns)
