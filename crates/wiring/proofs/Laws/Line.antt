@@ -13,8 +13,7 @@ use lib.ListN.{length, getD, set, take, drop, replicate, length-set, length-take
 use lib.Seq.{getD-set-same, getD-set-other, getD-take, drop-cons, take-suc-set, drop-append-le}
 use Rattle.tag.specs.Tags.{Tag, is}
 use Rattle.tag.specs.View.{bytesOf}
-use Rattle.tag.proofs.Laws.Is.{is-refl, is-true}
-use Rattle.tag.proofs.Laws.Same.{is-false}
+use Rattle.tag.proofs.Laws.Is.{is-refl, is-true, is-false}
 use Rattle.model.specs.declared.implicit_model.Model.{Model as Record}
 use Rattle.model.specs.declared.implicit_model.InputList.{InputList}
 use Rattle.model.specs.declared.implicit_model.Place.{Place as PlaceRecord}

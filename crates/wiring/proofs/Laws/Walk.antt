@@ -10,8 +10,7 @@ use native.Mathlib.Omega.{arith}
 use lib.ListN.{length, getD, set}
 use lib.Seq.{getD-set-same, getD-set-other}
 use Rattle.tag.specs.Tags.{Tag, is}
-use Rattle.tag.proofs.Laws.Is.{is-refl, is-true}
-use Rattle.tag.proofs.Laws.Same.{is-false}
+use Rattle.tag.proofs.Laws.Is.{is-refl, is-true, is-false}
 use Rattle.model.specs.Table.{any, Table, find}
 use Rattle.model.specs.Model.{Place, Model, list, inputs}
 use Rattle.model.specs.Walk.{gap, tags, fresh, Walked, clear, met, gapped, walk}
