@@ -47,6 +47,11 @@ few-inputs c = leb→le (inputCount c) 3 (count-few c)
 pub room-more : (m : Record) (f : Found) → noRoom m f ≡ false → f ≡ Nothing → m .«list_count» < 128
 room-more m f h e = leb-false 128 (m .«list_count») (subst (λ (x : Found). noRoom m x ≡ false) e h)
 
+-- the room for lists is what the lists leave
+pub room-after : (w m : Record) (f : Found) → w .«list_count» ≡ m .«list_count» → noRoom m f ≡ false → noRoom w f ≡ false
+room-after w m (At i) e h = refl
+room-after w m Nothing e h = ap (leb 128) e ∙ h
+
 module _ (m : Record) (size : length (m .lists) ≡ 128) {t : Tag} where
   -- the code's test is the definition's
   pub full-is : (f : Found) → Sought (listsOf m) 128 t f → listsFull (view m) t ≡ noRoom m f

@@ -11,7 +11,7 @@ use Rattle.edit.proofs.Laws.Step.{meets-7}
 use Rattle.adding.specs.Grown.{listPut}
 use Rattle.adding.specs.Inputs.{fitting, asked, RowOf}
 use Rattle.adding.proofs.Laws.Inputs.{asked-short}
-use Rattle.adding.proofs.Laws.Operation.{few-inputs, op-1, op-1-inputs, op-4, op-11, op-2, op-15, op-16, op-done}
+use Rattle.adding.proofs.Laws.Operation.{few-inputs, room-after, op-1, op-1-inputs, op-4, op-11, op-2, op-15, op-16, op-done}
 use Prim.Native.Nat.{ℕ}
 use Rattle.adding.proofs.add_operation.Statement.{statement}
 use Rattle.adding.proofs.add_operation.Tie as tie
@@ -127,7 +127,7 @@ with-more-requires : tie.Need-with-more-requires
 with-more-requires c κs = search needs
 
 put-list-requires : tie.Need-put-list-requires
-put-list-requires c κs = rw (c .with-more .ensures) (sym (c .before .before .before .no-room .ensures) ∙ c .before .before .if7 .left)
+put-list-requires c κs = room-after (c .with-more .result) (c .before .before .before .before .before .before .before .before .before .before .before .before .before .before .before .before .before .before .before .before .before .before .before .before .before .args .m) (c .before .before .before .before .find-list .result) (ap (λ (x : Record). x .«list_count») (c .with-more .ensures)) (sym (c .before .before .before .no-room .ensures) ∙ c .before .before .if7 .left)
 
 made-requires : tie.Need-made-requires
 made-requires c κs = search needs
