@@ -4,7 +4,7 @@ use mathlib.Core.Logic.{_≢_}
 use mathlib.Core.Bool.{Bool, true}
 use mathlib.Core.List.{List, [], _∷_}
 use mathlib.Core.Option.{none, some}
-use Prim.Native.Nat.{ℕ, _<_, _≤_}
+use Prim.Native.Nat.{ℕ}
 use native.Mathlib.Omega.{arith}
 use lib.Dec.{T, leb}
 use lib.ListN.{length, getD, set, length-set}
@@ -18,7 +18,6 @@ use Rattle.model.specs.declared.implicit_model.Model.{Model as Record}
 use Rattle.model.specs.declared.find.Found.{Found}
 use Rattle.model.specs.declared.find.Found.the-variants.{At, Nothing}
 use Rattle.model.specs.Table.{Table, find, cut, put, distinct, move}
-use Rattle.model.specs.Model.{Place}
 use Rattle.model.specs.View.{placeOf, rows, listOf, listsOf, every, placeFits, listFits}
 use Rattle.model.specs.Search.{Sought}
 use Rattle.model.proofs.Laws.Bool.{true→T}

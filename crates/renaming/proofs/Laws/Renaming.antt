@@ -1,8 +1,7 @@
 -- Each way out of `rename_component`. Assumes nothing.
-use mathlib.Core.Path.{_≡_, refl, sym, _∙_, ap, subst}
+use mathlib.Core.Path.{_≡_, sym, _∙_, ap, subst}
 use mathlib.Core.Bool.{Bool, true, false, not}
-use mathlib.Core.List.{List, [], map}
-use mathlib.Core.Option.{some}
+use mathlib.Core.List.{List, []}
 use Prim.Native.Nat.{ℕ, _<_, _≤_}
 use lib.Dec.{T}
 use lib.ListN.{length, take, getD, set}
@@ -23,7 +22,7 @@ use Rattle.model.specs.Search.{Sought}
 use Rattle.model.proofs.Laws.Bool.{true→T}
 use Rattle.model.proofs.Laws.Rows.{no-entry}
 use Rattle.model.proofs.Laws.Changes.{Becomes}
-use Rattle.model.proofs.Laws.Standing.{Standing, standing}
+use Rattle.model.proofs.Laws.Standing.{standing}
 use Rattle.edit.specs.declared.Edited.{Edited}
 use Rattle.edit.specs.Meets.{Meets}
 use Rattle.edit.specs.Ends.{Ends, Refused}
