@@ -1,4 +1,4 @@
--- The list of one tag moved to another, in the record of a model. Definitions only.
+-- A component and a list under another tag, and the list of one tag moved to another, in the record of a model. Definitions only.
 use mathlib.Core.Path.{_≡_}
 use mathlib.Core.Logic.{_≢_}
 use mathlib.Core.Bool.{true}
@@ -9,6 +9,7 @@ use lib.ListN.{getD, set}
 use Rattle.tag.specs.declared.Tag.{Tag as Label}
 use Rattle.tag.specs.Tags.{Tag}
 use Rattle.tag.specs.View.{bytesOf, tagFits}
+use Rattle.model.specs.declared.implicit_model.ComponentEntry.{ComponentEntry}
 use Rattle.model.specs.declared.implicit_model.InputList.{InputList}
 use Rattle.model.specs.declared.implicit_model.Model.{Model as Record}
 use Rattle.model.specs.Table.{find, distinct, move}
@@ -29,9 +30,13 @@ withoutList m i = record {
   default = m .default;
 }
 
+-- a component under another tag
+abbrev pub entryUnder : ComponentEntry → Label → ComponentEntry
+entryUnder e u = record { tag = u; component = e .component }
+
 -- a list under another tag
-abbrev pub retagged : InputList → Label → InputList
-retagged l u = record { tag = u; count = l .count; places = l .places }
+abbrev pub listUnder : InputList → Label → InputList
+listUnder l u = record { tag = u; count = l .count; places = l .places }
 
 -- what moving a list asks: 7 lets the record pass, and the new tag is another, within its size
 pub record Movable (m : Record) (t u : Label) : Type 0 where

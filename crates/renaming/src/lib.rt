@@ -11,7 +11,7 @@ ghost use mathlib.Core.Path.{_≡_};
 ghost use Rattle.tag.specs.View.{bytesOf};
 ghost use Rattle.model.specs.Edit.{renameComponent};
 ghost use Rattle.edit.specs.Meets.{Meets};
-ghost use Rattle.renaming.specs.Moving.{ListAt, withoutList, retagged, Movable, ListMoved};
+ghost use Rattle.renaming.specs.Moving.{ListAt, withoutList, entryUnder, listUnder, Movable, ListMoved};
 
 // The model without the list at a position: the last one takes its place.
 fn without_list(m: Model, i: usize) -> Model
@@ -26,9 +26,20 @@ fn without_list(m: Model, i: usize) -> Model
     n
 }
 
+// The component under another tag.
+fn entry_under(e: ComponentEntry, u: Tag) -> ComponentEntry
+    ensures { λ r. ⌜ r ≡ entryUnder e u ⌝ }
+{
+    let c = e.component;
+    ComponentEntry {
+        tag: u,
+        component: c,
+    }
+}
+
 // The list under another tag.
-fn under(l: InputList, u: Tag) -> InputList
-    ensures { λ r. ⌜ r ≡ retagged l u ⌝ }
+fn list_under(l: InputList, u: Tag) -> InputList
+    ensures { λ r. ⌜ r ≡ listUnder l u ⌝ }
 {
     let places = l.places;
     InputList {
@@ -48,7 +59,7 @@ fn list_moved(m: Model, t: Tag, u: Tag) -> Model
         return m;
     };
     let own = m.lists[i];
-    let l = under(own, u);
+    let l = list_under(own, u);
     let g = model::find::find_list(m, u);
     let Found::At(j) = g else {
         return edit::rows::with_list(m, i, l);
@@ -84,12 +95,8 @@ pub fn rename_component(m: Model, old: &[u8], new: &[u8]) -> Edited
         return edit::refuse(m, ModelError::MissingTag, t, 0);
     };
     let e = m.components[i];
-    let c = e.component;
-    let row = ComponentEntry {
-        tag: u,
-        component: c,
-    };
+    let c = entry_under(e, u);
     let k = list_moved(m, t, u);
-    let n = edit::rows::with_entry(k, i, row);
+    let n = edit::rows::with_entry(k, i, c);
     edit::made(removing::swapping::places_swapped(n, t, named), u)
 }

@@ -32,7 +32,7 @@ use Rattle.edit.specs.Rows.{withList}
 use Rattle.edit.proofs.Laws.Stored.{Stored, over-row, row-fits}
 use Rattle.edit.proofs.Laws.Tests.{missing, found-row}
 use Rattle.removing.proofs.Laws.Taken.{less-row}
-use Rattle.renaming.specs.Moving.{ListAt, withoutList, retagged, Movable, ListMoved}
+use Rattle.renaming.specs.Moving.{ListAt, withoutList, listUnder, Movable, ListMoved}
 
 -- ---- a table
 
@@ -72,9 +72,9 @@ cut-same t w r h s = go (same? s t)
 
 -- ---- the lists of a model
 
-retagged-fits : (l : InputList) (u : Label) → tagFits u ≡ true → T (listFits l) → T (listFits (retagged l u))
+under-fits : (l : InputList) (u : Label) → tagFits u ≡ true → T (listFits l) → T (listFits (listUnder l u))
 unfolding listFits
-retagged-fits l u s h =
+under-fits l u s h =
     let p = passed (tagFits (l .tag) ∷ leb (l .count) 3 ∷ every (rows placeFits (l .count) (l .places)) ∷ []) h in
     unpassed (tagFits u ∷ leb (l .count) 3 ∷ every (rows placeFits (l .count) (l .places)) ∷ []) (true→T (tagFits u) s, p .1)
 
@@ -93,7 +93,7 @@ module _ (m : Record) (t u : Label) (h : Movable m t u) (f : Found) (p : Sought 
     fits = g .lists;
   }
 
-  module _ (size : length (m .lists) ≡ 128) (i : ℕ) (e : f ≡ At i) (l : InputList) (z : l ≡ retagged (getD (m .lists) i no-list) u) (q : Found) (o : Sought (listsOf m) 128 (bytesOf u) q) where
+  module _ (size : length (m .lists) ≡ 128) (i : ℕ) (e : f ≡ At i) (l : InputList) (z : l ≡ listUnder (getD (m .lists) i no-list) u) (q : Found) (o : Sought (listsOf m) 128 (bytesOf u) q) where
     at : RowAt listOf (m .lists) (m .«list_count») i (bytesOf t) no-list
     at = found-row listOf (m .lists) (m .«list_count») no-list p e
 
@@ -103,7 +103,7 @@ module _ (m : Record) (t u : Label) (h : Movable m t u) (f : Found) (p : Sought 
 
     new-fits : T (listFits l)
     new-fits = subst (λ (x : InputList). T (listFits x)) (sym z)
-        (retagged-fits (getD (m .lists) i no-list) u (h .short) (row-fits listFits (m .lists) (m .«list_count») i no-list (g .lists) (at .below) (omega (arith, at .below, g .few-lists))))
+        (under-fits (getD (m .lists) i no-list) u (h .short) (row-fits listFits (m .lists) (m .«list_count») i no-list (g .lists) (at .below) (omega (arith, at .below, g .few-lists))))
 
     pub moved-free : q ≡ Nothing → (r : Record) → r ≡ withList m i l → ListMoved m (bytesOf t) (bytesOf u) r
     moved-free n r w =

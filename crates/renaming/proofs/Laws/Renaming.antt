@@ -31,16 +31,12 @@ use Rattle.edit.proofs.Laws.Step.{Step, skip, stop, finish-made, meets-on}
 use Rattle.edit.proofs.Laws.Tests.{long, short, labelled, carrying, taken, free, missing, sought-by, found-row}
 use Rattle.removing.specs.Swapping.{PlacesSwapped}
 use Rattle.removing.proofs.Laws.Holding.{Holds, holds-same, swappedIn, holds-swapped, named, named-fits}
-use Rattle.renaming.specs.Moving.{Movable, ListMoved}
+use Rattle.renaming.specs.Moving.{entryUnder, Movable, ListMoved}
 use Rattle.renaming.proofs.Laws.Moving.{retag-row}
 
 -- the component of t and its list moved to u
 abbrev movedIn : Record → Tag → Tag → Model
 movedIn m t u = record { components = move t u (componentsOf m); lists = move t u (listsOf m); default = placeOf (m .default) }
-
--- the row of a component under another tag
-abbrev pub retitled : ComponentEntry → Label → ComponentEntry
-retitled e y = record { tag = y; component = e .component }
 
 -- the tags differ, since one is held and the other is not
 pub movable : (m : Record) → passes m ≡ true → (u : Tag) → length u ≤ 32 → (x y : Label) → Made (take 32 u) y → (f g : Found) → Sought (componentsOf m) 64 (bytesOf y) f → f ≡ Nothing
@@ -92,10 +88,10 @@ module _ (m : Record) (t u : Tag) (r : Edited) (v : passes m ≡ true) where
             rows-kept : {A : Type 0} (h : ComponentEntry → A) (c : ComponentEntry) → rows h (m .«component_count») (set (m .components) i c) ≡ rows h (k .«component_count») (set (k .components) i c)
             rows-kept h c = rw (a .components, a .count)
 
-            both : Holds (movedIn m t u) (withEntry k i (retitled (getD (m .components) i no-entry) y))
+            both : Holds (movedIn m t u) (withEntry k i (entryUnder (getD (m .components) i no-entry) y))
             both =
                 let s = standing m v in
-                let new = retitled (getD (m .components) i no-entry) y in
+                let new = entryUnder (getD (m .components) i no-entry) y in
                 let b = retag-row componentOf entryFits (m .components) (m .«component_count») t u (s .once) (s .entries) i no-entry new
                 (found-row componentOf (m .components) (m .«component_count») no-entry (sought-by lx q) e) (missing (sought-by ly p) n)
                 (ap (λ (c : Tag). (c, getD (m .components) i no-entry .component)) (ly .bytes)) (true→T _ (ly .short)) in
@@ -116,14 +112,14 @@ module _ (m : Record) (t u : Tag) (r : Edited) (v : passes m ≡ true) where
                   };
                 }
 
-            pub rename-done : (n : Record) → n ≡ withEntry k i (retitled (getD (m .components) i no-entry) y) → (w : Record)
+            pub rename-done : (c : ComponentEntry) → c ≡ entryUnder (getD (m .components) i no-entry) y → (n : Record) → n ≡ withEntry k i c → (w : Record)
                 → PlacesSwapped (bytesOf x) (record { assigned = true; tag = y }) n w → Ends (made (bytesOf y)) w r → Meets (renameComponent t u) m r
             unfolding rename view
-            rename-done o b w s z =
+            rename-done c d o b w s z =
                 let by : PlaceRecord = record { assigned = true; tag = y } in
                 let h : Holds (renamed (view m) t u) w =
                 subst (λ (c : Place). Holds (swappedIn t c (movedIn m t u)) w) (named ly)
-                (holds-swapped t by (named-fits ly) o w (subst (λ (c : Tag). PlacesSwapped c by o w) (lx .bytes) s) (movedIn m t u) (subst (Holds (movedIn m t u)) (sym b) both)) in
+                (holds-swapped t by (named-fits ly) o w (subst (λ (c : Tag). PlacesSwapped c by o w) (lx .bytes) s) (movedIn m t u) (subst (Holds (movedIn m t u)) (sym (b ∙ ap (withEntry k i) d)) both)) in
                 on (skip (overlong t) 1 empty 0 (short t st) (skip (overlong u) 1 empty 0 (short u su) (skip (held u (componentsOf m)) 11 u 0 (free (sought-by ly p) n)
                 (skip (not (held t (componentsOf m))) 12 t 0 (ap not (taken (sought-by lx q) e))
                 (finish-made (subst (λ (c : Tag). Ends (made c) w r) (ly .bytes) z) (holds-same h) (h .stands))))))

@@ -11,7 +11,7 @@ use Rattle.renaming.proofs.list_moved.Reads as reads
 use Rattle.renaming.proofs.list_moved.Lts as lts
 use Rattle.edit.proofs.rows.with_list.Reads as with-list-reads
 use Rattle.model.proofs.find.find_list.Reads as find-list-reads
-use Rattle.renaming.proofs.under.Reads as under-reads
+use Rattle.renaming.proofs.list_under.Reads as list-under-reads
 use Rattle.renaming.proofs.without_list.Reads as without-list-reads
 
 size : (s : tie.Start) → length (s .args .t1 .lists) ≡ 128
@@ -41,8 +41,8 @@ mul-own c = omega (arith, below c)
 element-copy-out-own : tie.Need-element-copy-out-own
 element-copy-out-own c = below c
 
-under-requires : tie.Need-under-requires
-under-requires c κs = search needs
+list-under-requires : tie.Need-list-under-requires
+list-under-requires c κs = search needs
 
 find-list-requires-2 : tie.Need-find-list-requires-2
 find-list-requires-2 c κs = search needs
@@ -62,7 +62,7 @@ returns-2 c =
     let k = g .before .before .before .before in
     let f = k .before .before in
     let s = f .before in
-    moved-free (s .args .t1) (s .args .t) (s .args .u) (s .pre) _ (f .find-list .ensures) (size s) _ (k .f .given .1) _ (g .before .under .ensures) _ (g .find-list2 .ensures) (c .before .enum-told2 .given .1) _ (c .with-list .ensures)
+    moved-free (s .args .t1) (s .args .t) (s .args .u) (s .pre) _ (f .find-list .ensures) (size s) _ (k .f .given .1) _ (g .before .list-under .ensures) _ (g .find-list2 .ensures) (c .before .enum-told2 .given .1) _ (c .with-list .ensures)
 
 with-list-requires-2 : tie.Need-with-list-requires-2
 with-list-requires-2 c κs = search needs
@@ -73,7 +73,7 @@ without-list-requires c κs =
     let k = g .before .before .before .before in
     let f = k .before .before in
     let s = f .before in
-    list-at (s .args .t1) (s .args .t) (s .args .u) (s .pre) _ (f .find-list .ensures) (size s) _ (k .f .given .1) _ (g .before .under .ensures) _ (g .find-list2 .ensures) _ (c .before .before .g .given .1) _ (c .with-list2 .ensures)
+    list-at (s .args .t1) (s .args .t) (s .args .u) (s .pre) _ (f .find-list .ensures) (size s) _ (k .f .given .1) _ (g .before .list-under .ensures) _ (g .find-list2 .ensures) _ (c .before .before .g .given .1) _ (c .with-list2 .ensures)
 
 returns-3 : tie.Need-returns-3
 returns-3 c =
@@ -82,7 +82,7 @@ returns-3 c =
     let k = g .before .before .before .before in
     let f = k .before .before in
     let s = f .before in
-    moved-over (s .args .t1) (s .args .t) (s .args .u) (s .pre) _ (f .find-list .ensures) (size s) _ (k .f .given .1) _ (g .before .under .ensures) _ (g .find-list2 .ensures) _ (w .before .before .g .given .1) _ (w .with-list2 .ensures) _ (c .without-list .ensures)
+    moved-over (s .args .t1) (s .args .t) (s .args .u) (s .pre) _ (f .find-list .ensures) (size s) _ (k .f .given .1) _ (g .before .list-under .ensures) _ (g .find-list2 .ensures) _ (w .before .before .g .given .1) _ (w .with-list2 .ensures) _ (c .without-list .ensures)
 
 pub list-moved-spec : {M : Type 1} → statement M
 list-moved-spec =
@@ -94,7 +94,7 @@ list-moved-spec =
     returns
     mul-own
     element-copy-out-own
-    under-requires
+    list-under-requires
     find-list-requires-2
     enum-known-g
     enum-told-2

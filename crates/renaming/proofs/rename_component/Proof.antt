@@ -19,6 +19,7 @@ use Rattle.edit.proofs.rows.with_entry.Reads as with-entry-reads
 use Rattle.model.proofs.find.find_component.Reads as find-component-reads
 use Rattle.model.proofs.validity.is_valid.Reads as is-valid-reads
 use Rattle.removing.proofs.swapping.places_swapped.Reads as places-swapped-reads
+use Rattle.renaming.proofs.entry_under.Reads as entry-under-reads
 use Rattle.renaming.proofs.list_moved.Reads as list-moved-reads
 use Rattle.tag.proofs.tag_of.Reads as tag-of-reads
 
@@ -109,9 +110,12 @@ mul-e c = omega (arith, below c)
 element-copy-out-e : tie.Need-element-copy-out-e
 element-copy-out-e c = below c
 
+entry-under-requires : tie.Need-entry-under-requires
+entry-under-requires c κs = search needs
+
 list-moved-requires : tie.Need-list-moved-requires
 list-moved-requires c κs =
-    let k = c .before .before in
+    let k = c .before .before .before in
     let g = k .before .before in
     let f = g .before .before .before in
     let e3 = f .before .before .before in
@@ -131,13 +135,13 @@ made-requires c κs = search needs
 returns-6 : tie.Need-returns-6
 returns-6 c =
     let w = c .before .before in
-    let k = w .before .before .before .before in
+    let k = w .before .before .before .before .before in
     let g = k .before .before in
     let f = g .before .before .before in
     let e3 = f .before .before .before in
     let e = e3 .before .before in
     let s = e .before .before .before .before in
-    rename-done (s .args .t1) (s .args .old .now) (s .args .new .now) _ (passed e) (e3 .before .if2 .left) (e3 .if3 .left) _ (f .before .before .tag-of .ensures) _ (f .before .tag-of2 .ensures) _ (f .find-component .ensures) (g .before .enum-told2 .given .1) _ (g .find-component2 .ensures) _ (k .g .given .1) _ (w .before .list-moved .ensures) _ (w .with-entry .ensures) _ (c .before .places-swapped .ensures) (c .made .ensures)
+    rename-done (s .args .t1) (s .args .old .now) (s .args .new .now) _ (passed e) (e3 .before .if2 .left) (e3 .if3 .left) _ (f .before .before .tag-of .ensures) _ (f .before .tag-of2 .ensures) _ (f .find-component .ensures) (g .before .enum-told2 .given .1) _ (g .find-component2 .ensures) _ (k .g .given .1) _ (w .before .list-moved .ensures) _ (w .before .before .entry-under .ensures) _ (w .with-entry .ensures) _ (c .before .places-swapped .ensures) (c .made .ensures)
 
 pub rename-component-spec : {M : Type 1} → statement M
 rename-component-spec =
@@ -164,6 +168,7 @@ rename-component-spec =
     returns-5
     mul-e
     element-copy-out-e
+    entry-under-requires
     list-moved-requires
     with-entry-requires
     places-swapped-requires
