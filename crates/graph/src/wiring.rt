@@ -75,7 +75,7 @@ fn key(t: Tag) -> u64 {
 }
 
 // The keys of the components' tags.
-fn component_keys(m: Model) -> [u64; 64] {
+pub fn component_keys(m: Model) -> [u64; 64] {
     let n = tag::at_most(m.component_count, 64);
     let mut keys = [0u64; 64];
     let mut i: usize = 0;
@@ -88,10 +88,14 @@ fn component_keys(m: Model) -> [u64; 64] {
     keys
 }
 
-// A position that may be that of the tag's component.
-fn guess(keys: &[u64; 64], t: Tag) -> usize
+// A position that may be that of a slot's component.
+fn guess(keys: &[u64; 64], s: Slot) -> usize
     ensures { λ r. ⌜ r < 64 ⌝ }
 {
+    if s.kind != 0 {
+        return 0;
+    }
+    let t = s.tag;
     let k = key(t);
     let mut i: usize = 0;
     while i < 63 {
@@ -120,12 +124,27 @@ fn settle(s: Slot, u: Tag, c: usize, held: usize) -> usize
     195
 }
 
+// The node of a tag, by a guess where that holds.
+pub fn target_node(m: Model, keys: &[u64; 64], t: Tag) -> usize
+    requires { ⌜ passes m ≡ true ⌝ }
+    ensures { λ r. ⌜ r ≡ nodeOf m (bytesOf t) ⌝ }
+{
+    let s = Slot { kind: 0, tag: t };
+    let c = guess(keys, s);
+    let e = m.components[c];
+    let u = e.tag;
+    let v = settle(s, u, c, tag::at_most(m.component_count, 64));
+    if 195 <= v {
+        return node_of(m, t);
+    }
+    v
+}
+
 // The numbers of all slots of the lists, four to a list.
-pub fn resolve(m: Model) -> [usize; 512]
+pub fn resolve(m: Model, keys: &[u64; 64]) -> [usize; 512]
     requires { ⌜ passes m ≡ true ⌝ }
     ensures { λ r. ⌜ Resolved no-list m r ⌝ }
 {
-    let keys = component_keys(m);
     let held = tag::at_most(m.component_count, 64);
     let n = tag::at_most(m.list_count, 128) * 4;
     let mut found = [194usize; 512];
@@ -134,7 +153,7 @@ pub fn resolve(m: Model) -> [usize; 512]
         let l = m.lists[j / 4];
         let s = slot_at(l, j % 4);
         let t = s.tag;
-        let c = guess(&keys, t);
+        let c = guess(keys, s);
         let e = m.components[c];
         let u = e.tag;
         let mut v = settle(s, u, c, held);

@@ -50,6 +50,15 @@ module _ (m : Record) (s : Standing m) (long : length (m .components) ≡ 64) wh
       let r = rows-at componentOf (m .components) (m .«component_count») c no-entry lt in
       sym (node-hit m a c (position-at (componentOf no-entry) (componentsOf m) c a (s .once) lt (ap (λ (z : Tag × _). z .0) r ∙ q)))
 
+  -- the same of a tag by itself
+  pub node-fast : (t : Label) (c held : ℕ) → held ≡ min (m .«component_count») 64 → (v : ℕ) → v ≡ settleOf (record { kind = 0; tag = t }) (getD (m .components) c no-entry .tag) c held → v < 195 → v ≡ nodeOf m (bytesOf t)
+  node-fast t c held e v f h = f ∙ go (ltb c held) refl (is (bytesOf (getD (m .components) c no-entry .tag)) (bytesOf t)) refl (subst (λ (z : ℕ). z < 195) f h)
+    where
+      go : (y : Bool) → ltb c held ≡ y → (z : Bool) → is (bytesOf (getD (m .components) c no-entry .tag)) (bytesOf t) ≡ z → cond y (cond z c 195) 195 < 195 → cond y (cond z c 195) 195 ≡ nodeOf m (bytesOf t)
+      go true ey true ez lt = sym (guess-right c held e (ltb-true _ _ ey) (bytesOf t) (is-true _ _ ez))
+      go true ey false ez lt = absurd (let w : ⊥ = omega arith in w)
+      go false ey z ez lt = absurd (let w : ⊥ = omega arith in w)
+
   module _ (l : InputList) (q : ℕ) (slot : Slot) (right : slotOf slot ≡ wantOf l q) (c held : ℕ) (e : held ≡ min (m .«component_count») 64) where
     abbrev U : Label
     U = getD (m .components) c no-entry .tag

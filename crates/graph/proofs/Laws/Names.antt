@@ -92,7 +92,7 @@ module _ {m : Record} {w : List ℕ} (d : Drawn m w) where
       subst (λ (z : ℕ). z ∈ inputsOf w i) q (entry-in i p hp (subst (λ (z : ℕ). z < 192) (sym q) h))
 
   -- a tag with a wire has a node
-  wired-node : (a b : Tag) → Wire (view m) a b → nodeOf m a < 192
+  pub wired-node : (a b : Tag) → Wire (view m) a b → nodeOf m a < 192
   wired-node a b k = go (decLt (nodeOf m a) 192)
     where
       go : Dec (nodeOf m a < 192) → nodeOf m a < 192

@@ -37,6 +37,14 @@ names-want (none ∷ l) (List·Memᴰ·tail m) = let (p, h, e) = names-want l m 
 names-want (some b ∷ l) (List·Memᴰ·head e) = (0, omega arith, ap look (some-some (sym e)))
 names-want (some b ∷ l) (List·Memᴰ·tail m) = let (p, h, e) = names-want l m in (suc p, omega arith, e)
 
+-- an unassigned place of the list
+pub gap-want : (l : List Place) → List·Memᴰ none l → (p : ℕ) × (p < length l) × (placeWant l p ≡ fixed 193)
+unfolding placeWant
+gap-want [] m = elim m [ ]
+gap-want (none ∷ l) m = (0, omega arith, refl)
+gap-want (some b ∷ l) (List·Memᴰ·head e) = none-some e
+gap-want (some b ∷ l) (List·Memᴰ·tail m) = let (p, h, e) = gap-want l m in (suc p, omega arith, e)
+
 -- a number: unassigned, or past the end
 pub want-fixed : (l : List Place) (p : ℕ) {k : ℕ} → placeWant l p ≡ fixed k → 193 ≤ k
 unfolding placeWant
