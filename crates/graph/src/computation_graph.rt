@@ -100,7 +100,8 @@ fn ordered(m: Model, t: Tag) -> CompiledGraph
     requires { ⌜ (passes m ≡ true) × (overlong (bytesOf t) ≡ false) ⌝ }
     ensures { λ r. ⌜ CompilesAs m (bytesOf t) r ⌝ }
 {
-    let keys = component_keys(m);
+    let table = m.components;
+    let keys = component_keys(table, m.component_count);
     let x = target_node(m, &keys, t);
     if 192 <= x {
         return refused(ModelError::MissingTag, t, 0);

@@ -3,7 +3,7 @@ use Prim.Native.Nat.{ℕ, zero, suc, _+_, _-_, _*_, _/_, _%_, _≤_, _<_, min}
 use native.Mathlib.Omega.{arith}
 use native.Mathlib.Decide.{decLt}
 use mathlib.Core.Path.{_≡_, refl, sym, ap, ap₂, subst, _∙_}
-use mathlib.Core.Logic.{_≢_, _⊎_, inl, inr, ⊎-elim}
+use mathlib.Core.Logic.{_≢_}
 use mathlib.Core.Bool.{Bool, true, false, cond, not, true≢false, false≢true}
 use mathlib.Core.List.{List, [], _∷_, map, List·Memᴰ, List·Memᴰ·head, List·Memᴰ·tail, List·Memᴰ·not-nil}
 use mathlib.Core.Option.{Option, none, some, Option·getD}
@@ -21,19 +21,18 @@ use Rattle.model.specs.declared.find.Found.the-variants.{At, Nothing}
 use Rattle.model.specs.declared.model_error.ModelError.{ModelError}
 use Rattle.model.specs.declared.model_error.ModelError.the-variants.{InvalidModel}
 use Rattle.model.specs.Answer.{numberOf}
-use Rattle.model.specs.Model.{Place, Model, component, inputs, valid}
+use Rattle.model.specs.Model.{Place, inputs, valid}
 use Rattle.model.specs.Walk.{gap}
-use Rattle.model.specs.Form.{Wire, Reach, here, along, Cyclic, Absent, Gapped, Compiles, Least, Refuses, long, cyclic, absent, gapped, Order, Compiled, order, refusal}
+use Rattle.model.specs.Form.{Wire, Reach, here, along, Cyclic, Absent, Gapped, Compiles, Refuses, long, cyclic, absent, gapped, Order, Compiled, order, refusal}
 use Rattle.model.specs.View.{placeOf, rows, componentOf, componentsOf, listsOf, view, passes}
 use Rattle.model.specs.Search.{position}
 use Rattle.model.proofs.Laws.Bool.{T→true, true→T}
-use Rattle.model.proofs.Laws.Rows.{no-entry, no-list, rows-length, rows-at}
+use Rattle.model.proofs.Laws.Rows.{no-entry, no-list, rows-at}
 use Rattle.model.proofs.Laws.Standing.{Standing, standing, passes-valid}
 use Rattle.graph.specs.declared.least.Best.{Best}
 use Rattle.graph.specs.declared.computation_graph.Compiling.{Compiling}
-use Rattle.graph.specs.declared.computation_graph.Compiling.the-variants.{Ordered, Refused}
 use Rattle.graph.specs.declared.computation_graph.CompiledGraph.{CompiledGraph}
-use Rattle.graph.specs.Nodes.{_∈_, Reaches, Circular, IsOrder, inputsOf, IsReach, filledOf, wholeOf}
+use Rattle.graph.specs.Nodes.{_∈_, Circular, IsOrder, inputsOf, IsReach, filledOf, wholeOf}
 use Rattle.graph.specs.Wiring.{look, placeWant, wantOf, nodeOf, settled, slots, Resolved, Wired}
 use Rattle.graph.specs.Least.{LeastOf, AbsentShown, GapShown}
 use Rattle.graph.specs.Compile.{countOf, endingOf, tagAt, positionsOf, CompilesAs, Stopped, Placing}
@@ -41,7 +40,7 @@ use Rattle.graph.proofs.Laws.Order.{laid-length, order-acyclic}
 use Rattle.graph.proofs.Laws.Wires.{upTo, length-upTo, mem-upTo}
 use Rattle.graph.proofs.Laws.Node.{node-within, nameOf, Seat, component-at, list-at, nowhere, seat, name-node, node-none, node-component, absent-node, node-absent, listed-node, list-row, entry-row, unlisted}
 use Rattle.graph.proofs.Laws.Places.{want-names, names-want, gap-want}
-use Rattle.graph.proofs.Laws.Names.{Node, Drawn, node-of, wired-node, reach-down, reach-up, cyclic-down, cyclic-up, order-up}
+use Rattle.graph.proofs.Laws.Names.{Drawn, node-of, wired-node, reach-down, reach-up, cyclic-down, cyclic-up, order-up}
 use Rattle.graph.proofs.Laws.Drawing.{owner, listed-at, inputs-short, inputs-at, tagOf, drawn}
 use Rattle.graph.proofs.Laws.Least.{gap-there, there-gap}
 

@@ -6,12 +6,12 @@ use native.Mathlib.Decide.{ℕ-discrete, decLt}
 use mathlib.Core.Path.{_≡_, refl, sym, ap, subst, _∙_}
 use mathlib.Core.Logic.{_↔_, _⊎_, inl, inr, ⊎-elim}
 use mathlib.Core.Bool.{Bool, true, false, cond, true≢false, false≢true}
-use mathlib.Core.List.{List, [], _∷_, _++_, List·Memᴰ, List·Memᴰ·head, List·Memᴰ·tail, List·Memᴰ·cases-cons, List·Memᴰ·not-nil, Memᴰ·append-left, Memᴰ·append-right, List·Memᴰ·append-cases, List·Memᴰ·eq-of-singleton}
+use mathlib.Core.List.{List, [], _∷_, _++_, List·Memᴰ·head, List·Memᴰ·tail, List·Memᴰ·cases-cons, List·Memᴰ·not-nil, Memᴰ·append-left, Memᴰ·append-right, List·Memᴰ·append-cases, List·Memᴰ·eq-of-singleton}
 use lib.ListN.{length, getD, take, set, length-append, length-set}
 use lib.Seq.{take-suc, length-take-le, take-suc-set, getD-set-same, getD-set-other}
 use lib.Dec.{ltb, eqb}
-use borrow.Author.Tests.{ltb-true, ltb-false, lt-ltb, le-ltb, eqb-true, eqb-false, eq-eqb, ne-eqb}
-use Rattle.graph.specs.Nodes.{_∈_, Reaches, itself, Circular, Laid, IsOrder, keep, node, inputsOf, servedOf, readyOf, nextOf, wholeOf, Listed, IsReach, NextIn}
+use borrow.Author.Tests.{ltb-true, lt-ltb, eqb-true, eqb-false, ne-eqb}
+use Rattle.graph.specs.Nodes.{_∈_, Reaches, itself, Circular, Laid, IsOrder, keep, node, inputsOf, servedOf, readyOf, nextOf, wholeOf, IsReach, NextIn}
 use Rattle.graph.proofs.Laws.Order.{laid-none, laid-more, laid-length, laid-order, stuck-cyclic, reach-in}
 
 -- ---- tests taken apart

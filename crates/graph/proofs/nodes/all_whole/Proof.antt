@@ -1,5 +1,5 @@
+-- `graph::nodes::all_whole` meets its contract: `Laws/Wires.antt`. Assumes nothing.
 use native.Mathlib.Omega.{arith}
-use borrow.Author.Needs.{needs}
 use Prim.Native.Nat.{ℕ, _≤_, _<_, _-_}
 use mathlib.Core.Path.{_≡_, sym, subst, _∙_}
 use mathlib.Core.Bool.{true, false≢true}
@@ -10,9 +10,6 @@ use Rattle.graph.specs.Nodes.{_∈_, wholeOf}
 use Rattle.graph.proofs.Laws.Wires.{take-at, whole-more}
 use Rattle.graph.proofs.nodes.all_whole.Statement.{statement}
 use Rattle.graph.proofs.nodes.all_whole.Tie as tie
-use Rattle.graph.proofs.nodes.all_whole.Reads as reads
-use Rattle.graph.proofs.nodes.all_whole.Lts as lts
-use Rattle.graph.proofs.nodes.is_whole.Reads as is-whole-reads
 
 abbrev Inv-loop : tie.InvT-loop
 Inv-loop w at n seen i₀ i = (i ≤ n) × ((x : ℕ) → x ∈ take i at → wholeOf w x ≡ true)

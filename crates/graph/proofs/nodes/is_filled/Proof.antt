@@ -1,10 +1,7 @@
-use native.Mathlib.Omega.{arith}
-use borrow.Author.Needs.{needs}
+-- `graph::nodes::is_filled` meets its contract. Assumes nothing.
 use borrow.Author.Tests.{lt-ltb, le-ltb}
 use Rattle.graph.proofs.nodes.is_filled.Statement.{statement}
 use Rattle.graph.proofs.nodes.is_filled.Tie as tie
-use Rattle.graph.proofs.nodes.is_filled.Reads as reads
-use Rattle.graph.proofs.nodes.is_filled.Lts as lts
 
 returns : tie.Need-returns
 returns c = simp (lt-ltb _ _ (c .if1 .taken))

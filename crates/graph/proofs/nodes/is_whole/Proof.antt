@@ -1,11 +1,8 @@
-use native.Mathlib.Omega.{arith}
+-- `graph::nodes::is_whole` meets its contract. Assumes nothing.
 use borrow.Author.Needs.{needs}
 use borrow.Author.Tests.{lt-ltb, le-ltb, not-true, not-false}
 use Rattle.graph.proofs.nodes.is_whole.Statement.{statement}
 use Rattle.graph.proofs.nodes.is_whole.Tie as tie
-use Rattle.graph.proofs.nodes.is_whole.Reads as reads
-use Rattle.graph.proofs.nodes.is_whole.Lts as lts
-use Rattle.graph.proofs.nodes.is_filled.Reads as is-filled-reads
 
 returns : tie.Need-returns
 returns c = simp (le-ltb _ _ (c .if1 .taken))

@@ -1,11 +1,9 @@
+-- `graph::wiring::guess` meets its contract. Assumes nothing.
 use native.Mathlib.Omega.{arith}
 use borrow.Author.Needs.{needs}
 use Prim.Native.Nat.{_≤_, _-_}
 use Rattle.graph.proofs.wiring.guess.Statement.{statement}
 use Rattle.graph.proofs.wiring.guess.Tie as tie
-use Rattle.graph.proofs.wiring.guess.Reads as reads
-use Rattle.graph.proofs.wiring.guess.Lts as lts
-use Rattle.graph.proofs.wiring.key.Reads as key-reads
 
 abbrev Inv-loop : tie.InvT-loop
 Inv-loop keys k i₀ i = (i ≤ 63)

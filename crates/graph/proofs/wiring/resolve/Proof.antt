@@ -1,22 +1,14 @@
+-- `graph::wiring::resolve` meets its contract: `Laws/Drawing.antt`. Assumes nothing.
 use native.Mathlib.Omega.{arith}
 use borrow.Author.Needs.{needs}
-use Prim.Native.Nat.{_*_, _≤_, _-_, _/_, _%_, min}
-use mathlib.Core.Path.{_≡_, sym, ap, _∙_}
+use Prim.Native.Nat.{_*_, _-_, _%_, min}
+use mathlib.Core.Path.{_≡_, ap, _∙_}
 use mathlib.Core.Logic.{⊎-elim}
-use lib.ListN.{length, length-map, getD}
-use Rattle.model.proofs.Laws.Rows.{no-list}
+use lib.ListN.{length, length-map}
 use Rattle.model.proofs.Laws.Standing.{standing}
-use Rattle.graph.specs.Wiring.{settled, wantOf}
 use Rattle.graph.proofs.Laws.Drawing.{Upto, upto-start, upto-more, upto-end, settle-fast, settle-slow}
 use Rattle.graph.proofs.wiring.resolve.Statement.{statement}
 use Rattle.graph.proofs.wiring.resolve.Tie as tie
-use Rattle.graph.proofs.wiring.resolve.Reads as reads
-use Rattle.graph.proofs.wiring.resolve.Lts as lts
-use Rattle.graph.proofs.wiring.guess.Reads as guess-reads
-use Rattle.graph.proofs.wiring.node_of.Reads as node-of-reads
-use Rattle.graph.proofs.wiring.settle.Reads as settle-reads
-use Rattle.graph.proofs.wiring.slot_at.Reads as slot-at-reads
-use Rattle.tag.proofs.at_most.Reads as at-most-reads
 
 abbrev Inv-loop : tie.InvT-loop
 Inv-loop keys m held n found₀ j₀ found j = (n ≡ min (m .«list_count») 128 * 4) × Upto m found j
@@ -76,8 +68,11 @@ loop-less : tie.Need-loop-less Inv-loop μ-loop
 loop-less c = omega (arith, c .before .before .before .before .before .before .before .before .before .loop .inv .0, c .before .before .before .before .before .before .before .before .loop-test .taken)
 
 loop-again : tie.Need-loop-again Inv-loop μ-loop
-loop-again c = (c .before .before .before .before .before .before .before .before .before .loop .inv .0, upto-more (c .before .before .before .before .before .before .before .before .before .before .before .before .args .t1) (c .before .before .before .before .before .before .before .before .before .loop .found) (c .before .before .before .before .before .before .before .before .before .loop .j) (c .if1 .v) (c .before .before .before .before .before .before .before .before .before .loop .inv .1) (omega (arith, c .before .before .before .before .before .before .before .before .before .loop .inv .0, c .before .before .before .before .before .before .before .before .loop-test .taken))
-    (⊎-elim (λ y. y .2 ∙ settle-slow (c .before .before .before .before .before .before .before .before .before .before .before .before .args .t1) (standing (c .before .before .before .before .before .before .before .before .before .before .before .before .args .t1) (c .before .before .before .before .before .before .before .before .before .before .before .before .pre)) (long (c .before .before .before .before .before .before .before .before .before .before .before .before)) _ (c .before .before .before .before .before .before .before .before .before .loop .j % 4) (c .before .before .before .before .before .before .slot-at .result) (c .before .before .before .before .before .before .slot-at .ensures) (c .before .before .before .before .guess .result) (c .before .before .before .before .before .before .before .before .before .before .before .at-most .result) (c .before .before .before .before .before .before .before .before .before .before .before .at-most .ensures) (c .before .settle .result) (c .before .settle .ensures) (y .0 .taken) _ (y .1 .ensures)) (λ y. y .1 ∙ settle-fast (c .before .before .before .before .before .before .before .before .before .before .before .before .args .t1) (standing (c .before .before .before .before .before .before .before .before .before .before .before .before .args .t1) (c .before .before .before .before .before .before .before .before .before .before .before .before .pre)) (long (c .before .before .before .before .before .before .before .before .before .before .before .before)) _ (c .before .before .before .before .before .before .before .before .before .loop .j % 4) (c .before .before .before .before .before .before .slot-at .result) (c .before .before .before .before .before .before .slot-at .ensures) (c .before .before .before .before .guess .result) (c .before .before .before .before .before .before .before .before .before .before .before .at-most .result) (c .before .before .before .before .before .before .before .before .before .before .before .at-most .ensures) (c .before .settle .result) (c .before .settle .ensures) (y .0 .left)) (c .if1 .came)))
+loop-again c = (
+  c .before .before .before .before .before .before .before .before .before .loop .inv .0,
+  upto-more (c .before .before .before .before .before .before .before .before .before .before .before .before .args .t1) (c .before .before .before .before .before .before .before .before .before .loop .found) (c .before .before .before .before .before .before .before .before .before .loop .j) (c .if1 .v) (c .before .before .before .before .before .before .before .before .before .loop .inv .1) (omega (arith, c .before .before .before .before .before .before .before .before .before .loop .inv .0, c .before .before .before .before .before .before .before .before .loop-test .taken))
+      (⊎-elim (λ y. y .2 ∙ settle-slow (c .before .before .before .before .before .before .before .before .before .before .before .before .args .t1) (standing (c .before .before .before .before .before .before .before .before .before .before .before .before .args .t1) (c .before .before .before .before .before .before .before .before .before .before .before .before .pre)) (long (c .before .before .before .before .before .before .before .before .before .before .before .before)) _ (c .before .before .before .before .before .before .before .before .before .loop .j % 4) (c .before .before .before .before .before .before .slot-at .result) (c .before .before .before .before .before .before .slot-at .ensures) (c .before .before .before .before .guess .result) (c .before .before .before .before .before .before .before .before .before .before .before .at-most .result) (c .before .before .before .before .before .before .before .before .before .before .before .at-most .ensures) (c .before .settle .result) (c .before .settle .ensures) (y .0 .taken) _ (y .1 .ensures)) (λ y. y .1 ∙ settle-fast (c .before .before .before .before .before .before .before .before .before .before .before .before .args .t1) (standing (c .before .before .before .before .before .before .before .before .before .before .before .before .args .t1) (c .before .before .before .before .before .before .before .before .before .before .before .before .pre)) (long (c .before .before .before .before .before .before .before .before .before .before .before .before)) _ (c .before .before .before .before .before .before .before .before .before .loop .j % 4) (c .before .before .before .before .before .before .slot-at .result) (c .before .before .before .before .before .before .slot-at .ensures) (c .before .before .before .before .guess .result) (c .before .before .before .before .before .before .before .before .before .before .before .at-most .result) (c .before .before .before .before .before .before .before .before .before .before .before .at-most .ensures) (c .before .settle .result) (c .before .settle .ensures) (y .0 .left)) (c .if1 .came)),
+)
 
 returns : tie.Need-returns Inv-loop μ-loop
 returns c = upto-end (c .before .before .before .before .args .t1) (c .before .loop .found) (c .before .loop .j) (c .before .loop .inv .1) (omega (arith, c .before .loop .inv .0, c .loop-test .left))

@@ -1,4 +1,4 @@
-use native.Mathlib.Omega.{arith}
+-- `graph::wiring::target_node` meets its contract: `Laws/Drawing.antt`. Assumes nothing.
 use borrow.Author.Needs.{needs}
 use mathlib.Core.Path.{_≡_}
 use lib.ListN.{length, length-map}
@@ -6,12 +6,6 @@ use Rattle.model.proofs.Laws.Standing.{standing}
 use Rattle.graph.proofs.Laws.Drawing.{node-fast}
 use Rattle.graph.proofs.wiring.target_node.Statement.{statement}
 use Rattle.graph.proofs.wiring.target_node.Tie as tie
-use Rattle.graph.proofs.wiring.target_node.Reads as reads
-use Rattle.graph.proofs.wiring.target_node.Lts as lts
-use Rattle.graph.proofs.wiring.guess.Reads as guess-reads
-use Rattle.graph.proofs.wiring.node_of.Reads as node-of-reads
-use Rattle.graph.proofs.wiring.settle.Reads as settle-reads
-use Rattle.tag.proofs.at_most.Reads as at-most-reads
 
 long : (s : tie.Start) → length (s .args .t1 .components) ≡ 64
 long s = simp length-map at (s .good .0 .1 .1 .0 .1 .0 .1)
