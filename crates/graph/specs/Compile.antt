@@ -17,6 +17,7 @@ use Rattle.model.specs.View.{componentsOf, view, passes}
 use Rattle.graph.specs.declared.computation_graph.Compiling.{Compiling}
 use Rattle.graph.specs.declared.computation_graph.Compiling.the-variants.{Ordered, Refused}
 use Rattle.graph.specs.declared.computation_graph.CompiledGraph.{CompiledGraph}
+use Rattle.graph.specs.Nodes.{Copied}
 use Rattle.graph.specs.Wiring.{placeWant, settled}
 
 -- the count in an answer; a refused compile has 0
@@ -54,3 +55,11 @@ pub record Stopped (e : ModelError) (t : Label) (i : ℕ) (r : CompiledGraph) : 
   pub answer : r .answer ≡ Refused e
   pub tag : r .tag ≡ t
   pub index : r .index ≡ i
+
+-- an order of n, with its wires
+pub record Placing (at : List ℕ) (n : ℕ) (w : List ℕ) (r : CompiledGraph) : Type 0 where
+  pub answer : r .answer ≡ Ordered n
+  pub tag : bytesOf (r .tag) ≡ empty
+  pub index : r .index ≡ 0
+  pub order : Copied 64 at (r .order)
+  pub inputs : Copied 192 w (r .inputs)

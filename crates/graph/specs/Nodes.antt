@@ -106,6 +106,18 @@ pub record Ordered (w : List ℕ) (t : ℕ) (at : List ℕ) (n : ℕ) (done : Bo
   pub fits : n ≤ 192
   pub at-length : length at ≡ 192
 
+-- an entry that is neither an absent tag nor a gap
+abbrev pub filledOf : ℕ → Bool
+filledOf x = cond (ltb x 64) true (ltb 193 x)
+
+-- node i is a component, and each of its places is filled
+abbrev pub wholeOf : List ℕ → ℕ → Bool
+wholeOf w i = cond (ltb i 64) (cond (filledOf (getD w (i * 3) 0)) (cond (filledOf (getD w (i * 3 + 1) 0)) (filledOf (getD w (i * 3 + 2) 0)) false) false) false
+
+-- a test that, where it holds, says so of the first n
+pub record Whole (w at : List ℕ) (n : ℕ) (b : Bool) : Type 0 where
+  pub each : b ≡ true → (x : ℕ) → x ∈ take n at → wholeOf w x ≡ true
+
 -- the first k entries
 pub record Copied (k : ℕ) (xs r : List ℕ) : Type 0 where
   pub r-length : length r ≡ k

@@ -1,10 +1,12 @@
 // The compiled form: an order of its components, inputs ahead of users.
 use crate::least::least_absent;
 use crate::least::least_gap;
+use crate::nodes::all_whole;
 use crate::nodes::lay;
 use crate::nodes::reach;
-use crate::wiring::node_of;
+use crate::wiring::component_keys;
 use crate::wiring::resolve;
+use crate::wiring::target_node;
 use crate::wiring::wires;
 use model::implicit_model::Model;
 use model::model_error::ModelError;
@@ -17,7 +19,7 @@ ghost use Rattle.tag.specs.Tags.{overlong};
 ghost use Rattle.tag.specs.View.{bytesOf};
 ghost use Rattle.model.specs.View.{passes};
 ghost use Rattle.graph.specs.Nodes.{Copied};
-ghost use Rattle.graph.specs.Compile.{Stopped, CompilesAs};
+ghost use Rattle.graph.specs.Compile.{Stopped, Placing, CompilesAs};
 
 // How compile ended: with an order of so many, or refused.
 pub enum Compiling {
@@ -77,16 +79,34 @@ fn component_inputs(w: &[usize; 576]) -> [usize; 192]
     o
 }
 
+// An order of n, with its wires.
+fn placed(at: &[usize; 192], n: usize, w: &[usize; 576]) -> CompiledGraph
+    requires { ⌜ (length (now at) ≡ 192) × (length (now w) ≡ 576) ⌝ }
+    ensures { λ r. ⌜ Placing (now (at .entry)) n (now (w .entry)) r ⌝ }
+{
+    let a = Compiling::Ordered(n);
+    let t = tag::empty_tag();
+    CompiledGraph {
+        answer: a,
+        tag: t,
+        index: 0,
+        order: positions(at),
+        inputs: component_inputs(w),
+    }
+}
+
 // Compile after 7 and 1: 14, 12, 13, or an order.
 fn ordered(m: Model, t: Tag) -> CompiledGraph
     requires { ⌜ (passes m ≡ true) × (overlong (bytesOf t) ≡ false) ⌝ }
     ensures { λ r. ⌜ CompilesAs m (bytesOf t) r ⌝ }
 {
-    let x = node_of(m, t);
+    let table = m.components;
+    let keys = component_keys(table, m.component_count);
+    let x = target_node(m, &keys, t);
     if 192 <= x {
         return refused(ModelError::MissingTag, t, 0);
     }
-    let found = resolve(m);
+    let found = resolve(m, &keys);
     let w = wires(&found, tag::at_most(m.list_count, 128));
     let s = reach(&w, x);
     let line = s.at;
@@ -94,6 +114,10 @@ fn ordered(m: Model, t: Tag) -> CompiledGraph
     let o = lay(&w, &line, s.n, &seen, x);
     if !o.done {
         return refused(ModelError::CyclicDependency, t, 0);
+    }
+    let at = o.at;
+    if all_whole(&w, &line, s.n, &seen) {
+        return placed(&at, o.n, &w);
     }
     let a = least_absent(m, &found, &seen);
     if a.some {
@@ -105,16 +129,7 @@ fn ordered(m: Model, t: Tag) -> CompiledGraph
         let u = g.tag;
         return refused(ModelError::MissingInput, u, g.index);
     }
-    let at = o.at;
-    let c = Compiling::Ordered(o.n);
-    let e = tag::empty_tag();
-    CompiledGraph {
-        answer: c,
-        tag: e,
-        index: 0,
-        order: positions(&at),
-        inputs: component_inputs(&w),
-    }
+    placed(&at, o.n, &w)
 }
 
 // The order in which the target's components are computed, or why there is none: 7, 1, 14, 12, 13.

@@ -1,7 +1,7 @@
 // Nodes by number: the reach of one, and an order of it with inputs ahead of users.
 ghost use mathlib.Core.Path.{_≡_};
 ghost use Prim.Native.Nat.{_<_};
-ghost use Rattle.graph.specs.Nodes.{servedOf, readyOf, nextOf, Listed, Met, IsReach, NextIn, Ordered};
+ghost use Rattle.graph.specs.Nodes.{servedOf, readyOf, nextOf, filledOf, wholeOf, Listed, Met, IsReach, NextIn, Ordered, Whole};
 
 // A place is served: it has no node, or a marked one.
 fn served(m: &[u8; 192], x: usize) -> bool
@@ -130,4 +130,44 @@ pub fn reach(w: &[usize; 576], t: usize) -> Line
         i += 1;
     }
     Line { at, n, seen }
+}
+
+// An entry that is neither an absent tag nor a gap: a component, or past the end.
+fn is_filled(x: usize) -> bool
+    ensures { λ r. ⌜ r ≡ filledOf x ⌝ }
+{
+    if x < 64 { true } else { 193 < x }
+}
+
+// Node i is a component, and each of its places is filled.
+fn is_whole(w: &[usize; 576], i: usize) -> bool
+    requires { ⌜ i < 192 ⌝ }
+    ensures { λ r. ⌜ r ≡ wholeOf (now (w .entry)) i ⌝ }
+{
+    if 64 <= i {
+        return false;
+    }
+    if !is_filled(w[i * 3]) {
+        return false;
+    }
+    if !is_filled(w[i * 3 + 1]) {
+        return false;
+    }
+    is_filled(w[i * 3 + 2])
+}
+
+// Whether the first n are components whose places are filled: then there is nothing to look for behind 12 and 13.
+pub fn all_whole(w: &[usize; 576], at: &[usize; 192], n: usize, seen: &[u8; 192]) -> bool
+    requires { ⌜ Listed (now at) n (now seen) ⌝ }
+    ensures { λ r. ⌜ Whole (now (w .entry)) (now (at .entry)) n r ⌝ }
+{
+    let mut i: usize = 0;
+    while i < n {
+        let x = at[i];
+        if !is_whole(w, x) {
+            return false;
+        }
+        i += 1;
+    }
+    true
 }

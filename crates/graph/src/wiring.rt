@@ -2,6 +2,7 @@
 use model::find::Found;
 use model::find::find_component;
 use model::find::find_list;
+use model::implicit_model::ComponentEntry;
 use model::implicit_model::InputList;
 use model::implicit_model::Model;
 use tag::Tag;
@@ -74,13 +75,13 @@ fn key(t: Tag) -> u64 {
     k
 }
 
-// The keys of the components' tags.
-fn component_keys(m: Model) -> [u64; 64] {
-    let n = tag::at_most(m.component_count, 64);
+// The keys of the components' tags. It takes their table alone, which is a fifth of the model to copy.
+pub fn component_keys(table: [ComponentEntry; 64], count: usize) -> [u64; 64] {
+    let n = tag::at_most(count, 64);
     let mut keys = [0u64; 64];
     let mut i: usize = 0;
     while i < n {
-        let e = m.components[i];
+        let e = table[i];
         let t = e.tag;
         keys[i] = key(t);
         i += 1;
@@ -88,10 +89,14 @@ fn component_keys(m: Model) -> [u64; 64] {
     keys
 }
 
-// A position that may be that of the tag's component.
-fn guess(keys: &[u64; 64], t: Tag) -> usize
+// A position that may be that of a slot's component.
+fn guess(keys: &[u64; 64], s: Slot) -> usize
     ensures { λ r. ⌜ r < 64 ⌝ }
 {
+    if s.kind != 0 {
+        return 0;
+    }
+    let t = s.tag;
     let k = key(t);
     let mut i: usize = 0;
     while i < 63 {
@@ -120,12 +125,27 @@ fn settle(s: Slot, u: Tag, c: usize, held: usize) -> usize
     195
 }
 
+// The node of a tag, by a guess where that holds.
+pub fn target_node(m: Model, keys: &[u64; 64], t: Tag) -> usize
+    requires { ⌜ passes m ≡ true ⌝ }
+    ensures { λ r. ⌜ r ≡ nodeOf m (bytesOf t) ⌝ }
+{
+    let s = Slot { kind: 0, tag: t };
+    let c = guess(keys, s);
+    let e = m.components[c];
+    let u = e.tag;
+    let v = settle(s, u, c, tag::at_most(m.component_count, 64));
+    if 195 <= v {
+        return node_of(m, t);
+    }
+    v
+}
+
 // The numbers of all slots of the lists, four to a list.
-pub fn resolve(m: Model) -> [usize; 512]
+pub fn resolve(m: Model, keys: &[u64; 64]) -> [usize; 512]
     requires { ⌜ passes m ≡ true ⌝ }
     ensures { λ r. ⌜ Resolved no-list m r ⌝ }
 {
-    let keys = component_keys(m);
     let held = tag::at_most(m.component_count, 64);
     let n = tag::at_most(m.list_count, 128) * 4;
     let mut found = [194usize; 512];
@@ -134,7 +154,7 @@ pub fn resolve(m: Model) -> [usize; 512]
         let l = m.lists[j / 4];
         let s = slot_at(l, j % 4);
         let t = s.tag;
-        let c = guess(&keys, t);
+        let c = guess(keys, s);
         let e = m.components[c];
         let u = e.tag;
         let mut v = settle(s, u, c, held);

@@ -1,44 +1,42 @@
 -- The numbers along an order, and what evaluate_at answers. Assumes nothing.
-use Prim.Native.Nat.{ℕ, zero, suc, _+_, _-_, _*_, _≤_, _<_, min}
+use Prim.Native.Nat.{ℕ, zero, suc, _+_, _-_, _*_, _≤_, _<_}
 use native.Mathlib.Numerals.{add-one}
 use native.Mathlib.Omega.{arith}
 use native.Mathlib.Decide.{decLt}
 use mathlib.Core.Path.{_≡_, refl, sym, ap, ap₂, subst, _∙_}
 use mathlib.Core.Logic.{_⊎_, inl, inr, ⊎-elim}
-use mathlib.Core.Bool.{Bool, true, false, cond, not, true≢false, false≢true}
-use mathlib.Core.List.{List, [], _∷_, _++_, map, List·Memᴰ, List·Memᴰ·head, List·Memᴰ·tail, List·Memᴰ·not-nil, Memᴰ·append-left, Memᴰ·append-right, List·Memᴰ·append-cases, List·Memᴰ·eq-of-singleton}
-use mathlib.Core.Option.{Option, none, some}
-use lib.Dec.{T, ltb}
+use mathlib.Core.Bool.{Bool, true, false, cond, not, true≢false}
+use mathlib.Core.List.{List, [], _∷_, _++_, map, List·Memᴰ, List·Memᴰ·head, List·Memᴰ·tail, Memᴰ·append-left, Memᴰ·append-right, List·Memᴰ·append-cases, List·Memᴰ·eq-of-singleton}
+use mathlib.Core.Option.{none, some}
+use lib.Dec.{T}
 use lib.Ieee.{Float, nan, binary64, toBits}
 use lib.ListN.{length, getD, take, drop, set, length-set, length-take, length-map, length-append, List·getD-map}
 use lib.Seq.{take-suc, split-at, take-take, getD-take, length-take-le, getD-set-same, getD-set-other}
-use borrow.Author.Tests.{lt-ltb, le-ltb}
+use borrow.Author.Tests.{lt-ltb}
 use Rattle.tag.specs.Tags.{Tag, overlong, empty}
 use Rattle.tag.specs.View.{bytesOf}
 use Rattle.tag.specs.declared.Tag.{Tag as Label}
 use Rattle.geometry.specs.declared.vec3f.Vec3.{Vec3}
 use Rattle.component.specs.Value.{compute}
-use Rattle.component.specs.declared.model_component.Component.{Component}
 use Rattle.model.specs.declared.implicit_model.Model.{Model as Record}
 use Rattle.model.specs.declared.find.Found.the-variants.{At}
 use Rattle.model.specs.declared.model_error.ModelError.{ModelError}
 use Rattle.model.specs.declared.model_error.ModelError.the-variants.{InvalidModel}
 use Rattle.model.specs.Answer.{numberOf}
 use Rattle.model.specs.Model.{Place, Model, component, inputs, valid}
-use Rattle.model.specs.Form.{Wire, Compiles, Refuses, Placed, start, then, Order, ordered, stopped, Compiled, order, refusal, value, Number, worked, Numbers, nothing, another, bits, handed, Evaluated, number, refused-by}
+use Rattle.model.specs.Form.{Wire, Compiles, Placed, start, then, Order, ordered, stopped, Compiled, order, refusal, value, Number, worked, Numbers, nothing, another, bits, handed, Evaluated, number, refused-by}
 use Rattle.model.specs.View.{componentOf, componentsOf, view, passes}
 use Rattle.model.specs.Search.{position}
-use Rattle.model.proofs.Laws.Rows.{no-entry, rows-length, rows-at}
+use Rattle.model.proofs.Laws.Rows.{no-entry, rows-length}
 use Rattle.model.proofs.Laws.Standing.{Standing, standing}
 use Rattle.graph.specs.declared.computation_graph.Compiling.{Compiling}
 use Rattle.graph.specs.declared.computation_graph.Compiling.the-variants.{Ordered, Refused}
 use Rattle.graph.specs.declared.computation_graph.CompiledGraph.{CompiledGraph}
-use Rattle.graph.specs.declared.evaluate.Evaluating.{Evaluating}
 use Rattle.graph.specs.declared.evaluate.Evaluating.the-variants.{Number as Bits, Refused as Handed}
 use Rattle.graph.specs.Nodes.{_∈_}
-use Rattle.graph.specs.Wiring.{look, fixed, placeWant, nodeOf, settled}
-use Rattle.graph.specs.Compile.{countOf, endingOf, tagAt, positionsOf, CompilesAs}
-use Rattle.graph.specs.Evaluate.{errorOf, inputOf, EvaluatesAs}
+use Rattle.graph.specs.Wiring.{look, placeWant, nodeOf, settled}
+use Rattle.graph.specs.Compile.{countOf, endingOf, tagAt, CompilesAs}
+use Rattle.graph.specs.Evaluate.{inputOf, EvaluatesAs}
 use Rattle.graph.proofs.Laws.Order.{snoc-cut, no-cut}
 use Rattle.graph.proofs.Laws.Wires.{take-at}
 use Rattle.graph.proofs.Laws.Node.{position-at, node-hit, entry-row}

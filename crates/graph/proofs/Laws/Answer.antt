@@ -3,14 +3,14 @@ use Prim.Native.Nat.{ℕ, zero, suc, _+_, _-_, _*_, _/_, _%_, _≤_, _<_, min}
 use native.Mathlib.Omega.{arith}
 use native.Mathlib.Decide.{decLt}
 use mathlib.Core.Path.{_≡_, refl, sym, ap, ap₂, subst, _∙_}
-use mathlib.Core.Logic.{_≢_, _⊎_, inl, inr, ⊎-elim}
+use mathlib.Core.Logic.{_≢_}
 use mathlib.Core.Bool.{Bool, true, false, cond, not, true≢false, false≢true}
 use mathlib.Core.List.{List, [], _∷_, map, List·Memᴰ, List·Memᴰ·head, List·Memᴰ·tail, List·Memᴰ·not-nil}
 use mathlib.Core.Option.{Option, none, some, Option·getD}
 use lib.Dec.{T, ltb}
 use lib.ListN.{length, getD, take, List·getD-map}
 use lib.Seq.{getD-take, take-take, length-take-le}
-use borrow.Author.Tests.{lt-ltb}
+use borrow.Author.Tests.{lt-ltb, ltb-true}
 use Rattle.tag.specs.Tags.{Tag, before, overlong, empty}
 use Rattle.tag.specs.View.{bytesOf}
 use Rattle.tag.specs.declared.Tag.{Tag as Label}
@@ -21,27 +21,26 @@ use Rattle.model.specs.declared.find.Found.the-variants.{At, Nothing}
 use Rattle.model.specs.declared.model_error.ModelError.{ModelError}
 use Rattle.model.specs.declared.model_error.ModelError.the-variants.{InvalidModel}
 use Rattle.model.specs.Answer.{numberOf}
-use Rattle.model.specs.Model.{Place, Model, component, inputs, valid}
+use Rattle.model.specs.Model.{Place, inputs, valid}
 use Rattle.model.specs.Walk.{gap}
-use Rattle.model.specs.Form.{Wire, Reach, here, along, Cyclic, Absent, Gapped, Compiles, Least, Refuses, long, cyclic, absent, gapped, Order, Compiled, order, refusal}
+use Rattle.model.specs.Form.{Wire, Reach, here, along, Cyclic, Absent, Gapped, Compiles, Refuses, long, cyclic, absent, gapped, Order, Compiled, order, refusal}
 use Rattle.model.specs.View.{placeOf, rows, componentOf, componentsOf, listsOf, view, passes}
 use Rattle.model.specs.Search.{position}
 use Rattle.model.proofs.Laws.Bool.{T→true, true→T}
-use Rattle.model.proofs.Laws.Rows.{no-entry, no-list, rows-length, rows-at}
+use Rattle.model.proofs.Laws.Rows.{no-entry, no-list, rows-at}
 use Rattle.model.proofs.Laws.Standing.{Standing, standing, passes-valid}
 use Rattle.graph.specs.declared.least.Best.{Best}
 use Rattle.graph.specs.declared.computation_graph.Compiling.{Compiling}
-use Rattle.graph.specs.declared.computation_graph.Compiling.the-variants.{Ordered, Refused}
 use Rattle.graph.specs.declared.computation_graph.CompiledGraph.{CompiledGraph}
-use Rattle.graph.specs.Nodes.{_∈_, Reaches, Circular, IsOrder, inputsOf, IsReach, Copied}
+use Rattle.graph.specs.Nodes.{_∈_, Circular, IsOrder, inputsOf, IsReach, filledOf, wholeOf}
 use Rattle.graph.specs.Wiring.{look, placeWant, wantOf, nodeOf, settled, slots, Resolved, Wired}
 use Rattle.graph.specs.Least.{LeastOf, AbsentShown, GapShown}
-use Rattle.graph.specs.Compile.{countOf, endingOf, tagAt, positionsOf, CompilesAs, Stopped}
+use Rattle.graph.specs.Compile.{countOf, endingOf, tagAt, positionsOf, CompilesAs, Stopped, Placing}
 use Rattle.graph.proofs.Laws.Order.{laid-length, order-acyclic}
 use Rattle.graph.proofs.Laws.Wires.{upTo, length-upTo, mem-upTo}
-use Rattle.graph.proofs.Laws.Node.{nameOf, Seat, component-at, list-at, nowhere, seat, name-node, node-none, node-component, absent-node, node-absent, listed-node, list-row, entry-row, unlisted}
-use Rattle.graph.proofs.Laws.Places.{want-names, names-want}
-use Rattle.graph.proofs.Laws.Names.{Node, Drawn, reach-down, reach-up, cyclic-down, cyclic-up, order-up}
+use Rattle.graph.proofs.Laws.Node.{node-within, nameOf, Seat, component-at, list-at, nowhere, seat, name-node, node-none, node-component, absent-node, node-absent, listed-node, list-row, entry-row, unlisted}
+use Rattle.graph.proofs.Laws.Places.{want-names, names-want, gap-want}
+use Rattle.graph.proofs.Laws.Names.{Drawn, node-of, wired-node, reach-down, reach-up, cyclic-down, cyclic-up, order-up}
 use Rattle.graph.proofs.Laws.Drawing.{owner, listed-at, inputs-short, inputs-at, tagOf, drawn}
 use Rattle.graph.proofs.Laws.Least.{gap-there, there-gap}
 
@@ -207,6 +206,56 @@ module _ (m : Record) (pass : passes m ≡ true) (t : Tag) (size : overlong t �
           let (i, e) = there-gap (inputs (view m) a) 0 h in
           (i, record { list = k .at; below = k .within; marked = k .marked; tag = k .tag; gap = ap (gap 0) (sym (inputs-at m pass longs found r a (k .at) (k .stands))) ∙ e })
 
+      -- ---- where every reached node is whole, nothing is absent and nothing is gapped
+
+      module _ (whole : (x : ℕ) → x ∈ take len line → wholeOf w x ≡ true) where
+        parts : (x : ℕ) → x ∈ take len line → (x < 64) × ((p : ℕ) → p < 3 → filledOf (getD w (x * 3 + p) 0) ≡ true)
+        parts x k = go (ltb x 64) refl (whole x k)
+          where
+            three : (a b c : Bool) → cond a (cond b c false) false ≡ true → (a ≡ true) × (b ≡ true) × (c ≡ true)
+            three true true c e = (refl, refl, e)
+            three true false c e = absurd (false≢true e)
+            three false b c e = absurd (false≢true e)
+
+            go : (b : Bool) → ltb x 64 ≡ b → cond b (cond (filledOf (getD w (x * 3) 0)) (cond (filledOf (getD w (x * 3 + 1) 0)) (filledOf (getD w (x * 3 + 2) 0)) false) false) false ≡ true
+                → (x < 64) × ((p : ℕ) → p < 3 → filledOf (getD w (x * 3 + p) 0) ≡ true)
+            go false e f = absurd (false≢true f)
+            go true e f = (ltb-true x 64 e, at)
+              where
+                at : (p : ℕ) → p < 3 → filledOf (getD w (x * 3 + p) 0) ≡ true
+                at zero h = let z : x * 3 + 0 ≡ x * 3 = omega arith in ap (λ (y : ℕ). filledOf (getD w y 0)) z ∙ three (filledOf (getD w (x * 3) 0)) (filledOf (getD w (x * 3 + 1) 0)) (filledOf (getD w (x * 3 + 2) 0)) f .0
+                at (suc zero) h = three (filledOf (getD w (x * 3) 0)) (filledOf (getD w (x * 3 + 1) 0)) (filledOf (getD w (x * 3 + 2) 0)) f .1
+                at (suc (suc zero)) h = three (filledOf (getD w (x * 3) 0)) (filledOf (getD w (x * 3 + 1) 0)) (filledOf (getD w (x * 3 + 2) 0)) f .2
+                at (suc (suc (suc p))) h = absurd (let z : ⊥ = omega arith in z)
+
+        -- the node of a reached tag that has one
+        in-line : (a : Tag) → Reach (view m) t a → nodeOf m a < 192 → (nodeOf m a < 64) × ((p : ℕ) → p < 3 → filledOf (settled m (placeWant (inputs (view m) a) p)) ≡ true)
+        in-line a q h =
+            let (s, f) = parts (nodeOf m a) (reach .all (nodeOf m a) (reach-up d t small a q h)) in
+            (s, λ p hp. sym (ap filledOf (d .wires (nodeOf m a) (node-of d a h) p hp ∙ ap (λ (z : Tag). settled m (placeWant (inputs (view m) z) p)) (name-node m fit a h))) ∙ f p hp)
+
+        pub whole-present : (a : Tag) → ¬ Absent (view m) t a
+        whole-present a (q, n) = go q (absent-node m fit a n)
+          where
+            go : {b : Tag} → Reach (view m) t b → 64 ≤ nodeOf m b → ⊥
+            go here h = let s = in-line t here small .0 in omega arith
+            go {b} (along {a = c} r k) h = by (decLt (nodeOf m b) 192)
+              where
+                by : Dec (nodeOf m b < 192) → ⊥
+                by (yes lt) = let s = in-line b (along r k) lt .0 in omega arith
+                by (no nlt) =
+                    let (p, lt, e) = names-want (inputs (view m) c) k in
+                    let f = in-line c r (wired-node d c b k) .1 p (omega (arith, inputs-short m pass c)) in
+                    let z : nodeOf m b ≡ 192 = omega (arith, node-within m fit b) in
+                    false≢true (sym (ap filledOf (ap (settled m) e ∙ z)) ∙ f)
+
+        pub whole-assigned : (a : Tag) → ¬ Gapped (view m) t a
+        whole-assigned a (q, n) =
+            let (p, lt, e) = gap-want (inputs (view m) a) n in
+            let k = kept a q none n in
+            let f = in-line a q (listed-node m fit a (k .at) (k .stands)) .1 p (omega (arith, inputs-short m pass a)) in
+            false≢true (sym (ap filledOf (ap (settled m) e)) ∙ f)
+
       -- ---- the answers
 
       module _ (xs : List ℕ) (o : IsOrder (inputsOf w) (nodeOf m t) xs) (b : Best) (least : LeastOf (AbsentShown no-list m found seen (slots m)) b) where
@@ -217,72 +266,74 @@ module _ (m : Record) (pass : passes m ≡ true) (t : Tag) (size : overlong t �
         says-absent e = absent sound short acyclic (shown-absent _ _ (least .found e), λ a h n. true≢false (sym (T→true _ h) ∙ least .least a 0 (absent-shown a n) .1))
 
         module _ (none-absent : b .some ≡ false) (c : Best) (lowest : LeastOf (GapShown no-list m found seen (min (m .«list_count») 128)) c) where
-          present : (a : Tag) → ¬ Absent (view m) t a
-          present a n = true≢false (sym (least .least a 0 (absent-shown a n) .0) ∙ none-absent)
+          pub absents-none : (a : Tag) → ¬ Absent (view m) t a
+          absents-none a n = true≢false (sym (least .least a 0 (absent-shown a n) .0) ∙ none-absent)
 
           pub says-gapped : c .some ≡ true → Refuses (view m) t 13 (bytesOf (c .tag)) (c .index)
           says-gapped e =
               let (g, f) = shown-gap _ _ (lowest .found e) in
-              gapped sound short acyclic present (g, λ a h n. let (i, s) = gap-shown a n in true≢false (sym (T→true _ h) ∙ lowest .least a i s .1)) f
+              gapped sound short acyclic absents-none (g, λ a h n. let (i, s) = gap-shown a n in true≢false (sym (T→true _ h) ∙ lowest .least a i s .1)) f
 
-          module _ (none-gapped : c .some ≡ false) where
-            -- a reached tag has a component
-            component-node : (a : Tag) → Reach (view m) t a → nodeOf m a < 64
-            component-node a q = go (decLt (nodeOf m a) 64)
-              where
-                go : Dec (nodeOf m a < 64) → nodeOf m a < 64
-                go (yes h) = h
-                go (no n) = absurd (present a (q, node-absent m fit a (omega arith)))
+          pub gaps-none : c .some ≡ false → (a : Tag) → ¬ Gapped (view m) t a
+          gaps-none e a n = let (i, s) = gap-shown a n in true≢false (sym (lowest .least a i s .0) ∙ e)
 
-            -- so an entry of the order is a component's position, and its tag the one held there
-            in-order : (x : ℕ) → x ∈ xs → (x < 64) × (position (nameOf m x) 0 (componentsOf m) ≡ At x)
-            in-order x k =
-                let (nx, q) = reach-down d t small x (o .only x k) in
-                let h : nodeOf m (nameOf m x) < 64 = component-node (nameOf m x) q in
-                (subst (λ (z : ℕ). z < 64) (nx .1) h, node-component m fit (nameOf m x) h ∙ ap At (nx .1))
+      -- ---- an order, where nothing is absent and nothing is gapped
 
-            entry-held : (x : ℕ) → x ∈ xs → x < length (componentsOf m)
-            entry-held x k = entry-row m (nameOf m x) x (in-order x k .1) .within
+      module _ (xs : List ℕ) (o : IsOrder (inputsOf w) (nodeOf m t) xs) (present : (a : Tag) → ¬ Absent (view m) t a) (assigned : (a : Tag) → ¬ Gapped (view m) t a) where
+        -- a reached tag has a component
+        component-node : (a : Tag) → Reach (view m) t a → nodeOf m a < 64
+        component-node a q = go (decLt (nodeOf m a) 64)
+          where
+            go : Dec (nodeOf m a < 64) → nodeOf m a < 64
+            go (yes h) = h
+            go (no n) = absurd (present a (q, node-absent m fit a (omega arith)))
 
-            entry-tag : (x : ℕ) → x ∈ xs → tagAt m x ≡ nameOf m x
-            unfolding bytesOf
-            entry-tag x k =
-                List·getD-map (λ e. e .0) (componentsOf m) x (componentOf no-entry)
-                ∙ ap (λ e. e .0) (rows-at componentOf (m .components) (m .«component_count») x no-entry (entry-held x k))
-                ∙ ap (λ (v : Bool). cond v (bytesOf (getD (m .components) x no-entry .tag)) (bytesOf (getD (m .lists) (x - 64) no-list .tag))) (sym (lt-ltb x 64 (in-order x k .0)))
+        -- so an entry of the order is a component's position, and its tag the one held there
+        in-order : (x : ℕ) → x ∈ xs → (x < 64) × (position (nameOf m x) 0 (componentsOf m) ≡ At x)
+        in-order x k =
+            let (nx, q) = reach-down d t small x (o .only x k) in
+            let h : nodeOf m (nameOf m x) < 64 = component-node (nameOf m x) q in
+            (subst (λ (z : ℕ). z < 64) (nx .1) h, node-component m fit (nameOf m x) h ∙ ap At (nx .1))
 
-            map-same : (l : List ℕ) → ((x : ℕ) → x ∈ l → x ∈ xs) → map (tagAt m) l ≡ map (nameOf m) l
-            map-same [] h = refl
-            map-same (x ∷ l) h = ap₂ (λ (u : Tag) (v : List Tag). u ∷ v) (entry-tag x (h x (List·Memᴰ·head refl))) (map-same l (λ y k. h y (List·Memᴰ·tail k)))
+        entry-held : (x : ℕ) → x ∈ xs → x < length (componentsOf m)
+        entry-held x k = entry-row m (nameOf m x) x (in-order x k .1) .within
 
-            few : length xs ≤ 64
-            few = omega (arith, laid-length (inputsOf w) xs (o .laid) (upTo 64) (λ x k. mem-upTo 64 x (in-order x k .0)), length-upTo 64)
+        entry-tag : (x : ℕ) → x ∈ xs → tagAt m x ≡ nameOf m x
+        unfolding bytesOf
+        entry-tag x k =
+            List·getD-map (λ e. e .0) (componentsOf m) x (componentOf no-entry)
+            ∙ ap (λ e. e .0) (rows-at componentOf (m .components) (m .«component_count») x no-entry (entry-held x k))
+            ∙ ap (λ (v : Bool). cond v (bytesOf (getD (m .components) x no-entry .tag)) (bytesOf (getD (m .lists) (x - 64) no-list .tag))) (sym (lt-ltb x 64 (in-order x k .0)))
 
-            form : Compiles (view m) t
-            form = record { acyclic = acyclic; present = present; assigned = λ a n. let (i, s) = gap-shown a n in true≢false (sym (lowest .least a i s .0) ∙ none-gapped) }
+        map-same : (l : List ℕ) → ((x : ℕ) → x ∈ l → x ∈ xs) → map (tagAt m) l ≡ map (nameOf m) l
+        map-same [] h = refl
+        map-same (x ∷ l) h = ap₂ (λ (u : Tag) (v : List Tag). u ∷ v) (entry-tag x (h x (List·Memᴰ·head refl))) (map-same l (λ y k. h y (List·Memᴰ·tail k)))
 
-            module _ (at : List ℕ) (k : ℕ) (filled : length at ≡ 192) (fits : k ≤ 192) (laid : xs ≡ take k at) (e : Label) (plain : bytesOf e ≡ empty)
-                (ps : List ℕ) (copied : Copied 64 at ps) (is : List ℕ) (inputs-copied : Copied 192 w is) where
-              abbrev answer : CompiledGraph
-              answer = record { answer = Ordered k; tag = e; index = 0; order = ps; inputs = is }
+        few : length xs ≤ 64
+        few = omega (arith, laid-length (inputsOf w) xs (o .laid) (upTo 64) (λ x k. mem-upTo 64 x (in-order x k .0)), length-upTo 64)
 
-              count : k ≤ 64
-              count = omega (arith, ap length laid, length-take-le k at (omega arith), few)
+        form : Compiles (view m) t
+        form = record { acyclic = λ c. order-acyclic (inputsOf w) (nodeOf m t) xs o (cyclic-up d t small c); present = present; assigned = assigned }
 
-              same : take k ps ≡ xs
-              same = sym (take-take k 64 ps count) ∙ ap (take k) (copied .same) ∙ take-take k 64 at count ∙ sym laid
+        module _ (at : List ℕ) (k : ℕ) (filled : length at ≡ 192) (fits : k ≤ 192) (laid : xs ≡ take k at) (graph : CompiledGraph) (made : Placing at k w graph) where
+          count : k ≤ 64
+          count = omega (arith, ap length laid, length-take-le k at (omega arith), few)
 
-              entry : (x p : ℕ) → x < 64 → p < 3 → getD is (x * 3 + p) 0 ≡ getD w (x * 3 + p) 0
-              entry x p h hp = sym (getD-take 192 is (x * 3 + p) 0 (omega arith)) ∙ ap (λ (l : List ℕ). getD l (x * 3 + p) 0) (inputs-copied .same) ∙ getD-take 192 w (x * 3 + p) 0 (omega arith)
+          same : positionsOf graph ≡ xs
+          same = ap (λ (z : Compiling). take (countOf z) (graph .order)) (made .answer) ∙ sym (take-take k 64 (graph .order) count) ∙ ap (take k) (made .order .same) ∙ take-take k 64 at count ∙ sym laid
 
-              pub says-ordered : CompilesAs m t answer
-              says-ordered = record {
-                fitting = λ q. order sound short form (subst (λ (l : List ℕ). Order (view m) t (map (tagAt m) l)) (sym same) (subst (Order (view m) t) (sym (map-same xs (λ x i. i))) (order-up d t small (λ a q. omega (arith, component-node a q)) xs o)));
-                unfit = λ q. absurd (true≢false (sym pass ∙ q));
-                counted = length-take-le k ps (omega (arith, copied .r-length, count));
-                few = count;
-                held = λ x i. entry-held x (subst (λ (l : List ℕ). x ∈ l) same i);
-                plain = λ j q. (plain, refl);
-                wired = λ x p i hp. let j : x ∈ xs = subst (λ (l : List ℕ). x ∈ l) same i in
-                    entry x p (in-order x j .0) hp ∙ d .wires x (reach-down d t small x (o .only x j) .0) p hp ∙ ap (λ (z : Tag). settled m (placeWant (inputs (view m) z) p)) (sym (entry-tag x j));
-              }
+          entry : (x p : ℕ) → x < 64 → p < 3 → getD (graph .inputs) (x * 3 + p) 0 ≡ getD w (x * 3 + p) 0
+          entry x p h hp = sym (getD-take 192 (graph .inputs) (x * 3 + p) 0 (omega arith)) ∙ ap (λ (l : List ℕ). getD l (x * 3 + p) 0) (made .inputs .same) ∙ getD-take 192 w (x * 3 + p) 0 (omega arith)
+
+          pub says-ordered : CompilesAs m t graph
+          says-ordered = record {
+            fitting = λ q. subst (λ (z : Compiling). Compiled (view m) t (endingOf z (bytesOf (graph .tag)) (graph .index)) (map (tagAt m) (positionsOf graph))) (sym (made .answer))
+                (order sound short form (subst (λ (l : List ℕ). Order (view m) t (map (tagAt m) l)) (sym same) (subst (Order (view m) t) (sym (map-same xs (λ x i. i))) (order-up d t small (λ a q. omega (arith, component-node a q)) xs o))));
+            unfit = λ q. absurd (true≢false (sym pass ∙ q));
+            counted = subst (λ (z : Compiling). length (take (countOf z) (graph .order)) ≡ countOf z) (sym (made .answer)) (length-take-le k (graph .order) (omega (arith, made .order .r-length, count)));
+            few = subst (λ (z : Compiling). countOf z ≤ 64) (sym (made .answer)) count;
+            held = λ x i. entry-held x (subst (λ (l : List ℕ). x ∈ l) same i);
+            plain = λ j q. (made .tag, made .index);
+            wired = λ x p i hp. let j : x ∈ xs = subst (λ (l : List ℕ). x ∈ l) same i in
+                entry x p (in-order x j .0) hp ∙ d .wires x (reach-down d t small x (o .only x j) .0) p hp ∙ ap (λ (z : Tag). settled m (placeWant (inputs (view m) z) p)) (sym (entry-tag x j));
+          }

@@ -1,13 +1,13 @@
 -- The numbers that the slots of the lists come to, and the wires made of them. Assumes nothing.
 use Prim.Native.Nat.{ℕ, zero, suc, _+_, _*_, _/_, _%_, _≤_, _<_, min}
 use native.Mathlib.Omega.{arith}
-use native.Mathlib.Decide.{decLt, ℕ-discrete}
+use native.Mathlib.Decide.{ℕ-discrete}
 use mathlib.Core.Path.{_≡_, refl, sym, ap, ap₂, subst, _∙_}
-use mathlib.Core.Logic.{_≢_, _⊎_, inl, inr, ⊎-elim}
+use mathlib.Core.Logic.{_≢_}
 use mathlib.Core.Bool.{Bool, true, false, cond}
 use mathlib.Core.List.{List, []}
 use mathlib.Core.Option.{Option, none, some, Option·getD}
-use lib.Dec.{T, ltb, leb, eqb}
+use lib.Dec.{T, ltb, eqb}
 use lib.ListN.{length, getD, set, replicate, length-set, length-replicate, getD-replicate}
 use lib.Seq.{getD-set-same, getD-set-other}
 use borrow.Author.Tests.{ltb-true, leb-true}
@@ -19,21 +19,20 @@ use Rattle.model.specs.declared.implicit_model.InputList.{InputList}
 use Rattle.model.specs.declared.implicit_model.Model.{Model as Record}
 use Rattle.model.specs.declared.find.Found.{Found}
 use Rattle.model.specs.declared.find.Found.the-variants.{At, Nothing}
-use Rattle.model.specs.Model.{Place, list, inputs, valid}
+use Rattle.model.specs.Model.{Place, list, inputs}
 use Rattle.model.specs.View.{placeOf, rows, componentOf, listOf, componentsOf, listsOf, view, passes}
 use Rattle.model.specs.Search.{position}
 use Rattle.model.proofs.Laws.Bool.{T→true}
 use Rattle.model.proofs.Laws.Places.{good-three}
 use Rattle.model.proofs.Laws.Rows.{no-entry, no-list, rows-length, rows-at}
-use Rattle.model.proofs.Laws.Search.{RowAt}
 use Rattle.model.proofs.Laws.Standing.{Standing, standing, passes-valid}
-use Rattle.model.proofs.Laws.Valid.{Good, good}
+use Rattle.model.proofs.Laws.Valid.{good}
 use Rattle.model.proofs.Laws.Changes.{rows-apart}
 use Rattle.graph.specs.declared.wiring.Slot.{Slot}
-use Rattle.graph.specs.Wiring.{Want, look, fixed, placeWant, wantOf, slotOf, nodeOf, settled, settleOf, slots, Resolved, Owned, Wired}
+use Rattle.graph.specs.Wiring.{look, fixed, placeWant, wantOf, slotOf, nodeOf, settled, settleOf, slots, Resolved, Owned, Wired}
 use Rattle.graph.proofs.Laws.Node.{nameOf, position-at, node-hit, name-node, listed-node, list-row, unlisted}
 use Rattle.graph.proofs.Laws.Places.{want-fixed-le, want-past}
-use Rattle.graph.proofs.Laws.Names.{Node, WiresOf, Drawn}
+use Rattle.graph.proofs.Laws.Names.{Node, Drawn}
 
 -- ---- one slot
 
@@ -49,6 +48,15 @@ module _ (m : Record) (s : Standing m) (long : length (m .components) ≡ 64) wh
       let lt : c < length (componentsOf m) = omega (arith, n) in
       let r = rows-at componentOf (m .components) (m .«component_count») c no-entry lt in
       sym (node-hit m a c (position-at (componentOf no-entry) (componentsOf m) c a (s .once) lt (ap (λ (z : Tag × _). z .0) r ∙ q)))
+
+  -- the same of a tag by itself
+  pub node-fast : (t : Label) (c held : ℕ) → held ≡ min (m .«component_count») 64 → (v : ℕ) → v ≡ settleOf (record { kind = 0; tag = t }) (getD (m .components) c no-entry .tag) c held → v < 195 → v ≡ nodeOf m (bytesOf t)
+  node-fast t c held e v f h = f ∙ go (ltb c held) refl (is (bytesOf (getD (m .components) c no-entry .tag)) (bytesOf t)) refl (subst (λ (z : ℕ). z < 195) f h)
+    where
+      go : (y : Bool) → ltb c held ≡ y → (z : Bool) → is (bytesOf (getD (m .components) c no-entry .tag)) (bytesOf t) ≡ z → cond y (cond z c 195) 195 < 195 → cond y (cond z c 195) 195 ≡ nodeOf m (bytesOf t)
+      go true ey true ez lt = sym (guess-right c held e (ltb-true _ _ ey) (bytesOf t) (is-true _ _ ez))
+      go true ey false ez lt = absurd (let w : ⊥ = omega arith in w)
+      go false ey z ez lt = absurd (let w : ⊥ = omega arith in w)
 
   module _ (l : InputList) (q : ℕ) (slot : Slot) (right : slotOf slot ≡ wantOf l q) (c held : ℕ) (e : held ≡ min (m .«component_count») 64) where
     abbrev U : Label

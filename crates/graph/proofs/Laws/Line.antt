@@ -1,17 +1,16 @@
 -- The line of nodes that are met, and the reach. Assumes nothing.
-use Prim.Native.Nat.{ℕ, zero, suc, _+_, _*_, _≤_, _<_}
+use Prim.Native.Nat.{ℕ, _+_, _*_, _≤_, _<_}
 use native.Mathlib.Numerals.{add-one}
 use native.Mathlib.Omega.{arith}
-use native.Mathlib.Nat.{le-of-suc-le-suc}
 use native.Mathlib.Decide.{ℕ-discrete, decLt}
 use mathlib.Core.Path.{_≡_, refl, sym, ap, subst, _∙_}
 use mathlib.Core.Logic.{_↔_, _⊎_, inl, inr, ⊎-elim}
-use mathlib.Core.List.{List, [], _∷_, _++_, List·Memᴰ, List·Memᴰ·head, List·Memᴰ·tail, List·Memᴰ·cases-cons, List·Memᴰ·not-nil, Memᴰ·append-left, Memᴰ·append-right, List·Memᴰ·append-cases, List·Memᴰ·eq-of-singleton}
+use mathlib.Core.List.{List, [], _∷_, _++_, List·Memᴰ·head, List·Memᴰ·not-nil, Memᴰ·append-left, Memᴰ·append-right, List·Memᴰ·append-cases, List·Memᴰ·eq-of-singleton}
 use lib.ListN.{length, getD, take, set, replicate, getD-replicate, length-replicate, length-append, length-set}
-use lib.Seq.{length-take-le, take-suc-set, getD-set-same, getD-set-other}
+use lib.Seq.{length-take-le, take-suc-set, getD-set-other}
 use Rattle.graph.specs.Nodes.{_∈_, Reaches, itself, wired, Laid, inputsOf, Listed, Met, IsReach}
 use Rattle.graph.proofs.Laws.Order.{laid-more, laid-length, reach-in, no-cut}
-use Rattle.graph.proofs.Laws.Wires.{entry-cases, entry-0, entry-1, entry-2, reach-small, upTo, length-upTo, mem-upTo, take-at, take-index, marks-more}
+use Rattle.graph.proofs.Laws.Wires.{entry-cases, entry-0, entry-1, entry-2, upTo, length-upTo, mem-upTo, take-at, take-index, marks-more}
 
 pub none-listed : Listed (replicate 192 0) 0 (replicate 192 0)
 none-listed = record {

@@ -3,7 +3,7 @@ use Prim.Native.Nat.{ℕ, zero, suc, _+_, _*_, _≤_, _<_}
 use native.Mathlib.Omega.{arith}
 use native.Mathlib.Decide.{decLt}
 use mathlib.Core.Path.{_≡_, refl, sym, ap, subst, _∙_}
-use mathlib.Core.Logic.{_⊎_, inl, inr, ⊎-elim}
+use mathlib.Core.Logic.{_⊎_, ⊎-elim}
 use mathlib.Core.List.{List, [], _∷_, _++_, map, List·Memᴰ, List·Memᴰ·head, List·Memᴰ·tail, List·Memᴰ·cases-cons, List·Memᴰ·not-nil, Memᴰ·append-left, Memᴰ·append-right}
 use mathlib.Core.Option.{some}
 use lib.ListN.{length, getD}
@@ -17,7 +17,7 @@ use Rattle.model.proofs.Laws.Standing.{Standing}
 use Rattle.graph.specs.Nodes.{_∈_, Reaches, itself, wired, Circular, IsOrder, inputsOf}
 use Rattle.graph.specs.Wiring.{Want, look, fixed, placeWant, nodeOf, settled}
 use Rattle.graph.proofs.Laws.Order.{by-placing}
-use Rattle.graph.proofs.Laws.Wires.{entry-cases, entry-0, entry-1, entry-2, reach-small}
+use Rattle.graph.proofs.Laws.Wires.{entry-cases, entry-0, entry-1, entry-2}
 use Rattle.graph.proofs.Laws.Node.{nameOf, name-node, node-none}
 use Rattle.graph.proofs.Laws.Places.{want-names, names-want, want-fixed}
 
@@ -92,7 +92,7 @@ module _ {m : Record} {w : List ℕ} (d : Drawn m w) where
       subst (λ (z : ℕ). z ∈ inputsOf w i) q (entry-in i p hp (subst (λ (z : ℕ). z < 192) (sym q) h))
 
   -- a tag with a wire has a node
-  wired-node : (a b : Tag) → Wire (view m) a b → nodeOf m a < 192
+  pub wired-node : (a b : Tag) → Wire (view m) a b → nodeOf m a < 192
   wired-node a b k = go (decLt (nodeOf m a) 192)
     where
       go : Dec (nodeOf m a < 192) → nodeOf m a < 192

@@ -2,7 +2,7 @@
 use Prim.Native.Nat.{ℕ, _+_, _-_, _≤_, _<_}
 use native.Mathlib.Omega.{arith}
 use mathlib.Core.Path.{_≡_, refl, sym, ap, ap₂, subst, _∙_}
-use mathlib.Core.Bool.{Bool, true, false, cond}
+use mathlib.Core.Bool.{cond}
 use mathlib.Core.List.{List, []}
 use mathlib.Core.Option.{Option, none, some, Option·getD}
 use lib.Dec.{T, ltb}
@@ -15,9 +15,9 @@ use Rattle.model.specs.declared.find.Found.{Found}
 use Rattle.model.specs.declared.find.Found.the-variants.{At, Nothing}
 use Rattle.model.specs.Table.{Table, find, distinct}
 use Rattle.model.specs.Model.{Place, component, list, inputs}
-use Rattle.model.specs.View.{rows, componentOf, listOf, componentsOf, listsOf, view}
+use Rattle.model.specs.View.{componentOf, listOf, componentsOf, listsOf, view}
 use Rattle.model.specs.Search.{position}
-use Rattle.model.proofs.Laws.Rows.{no-entry, no-list, rows-length, rows-at}
+use Rattle.model.proofs.Laws.Rows.{no-entry, no-list}
 use Rattle.model.proofs.Laws.Table.{held-false}
 use Rattle.model.proofs.Laws.Search.{RowAt, row-at, row, position-free}
 use Rattle.model.proofs.Laws.Standing.{Standing}

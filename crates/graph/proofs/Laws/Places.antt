@@ -1,21 +1,18 @@
 -- What stands in a list, place by place. Assumes nothing.
-use Prim.Native.Nat.{ℕ, zero, suc, _+_, _-_, _≤_, _<_, min}
+use Prim.Native.Nat.{ℕ, zero, suc, _-_, _≤_, _<_, min}
 use native.Mathlib.Omega.{arith}
 use mathlib.Core.Path.{_≡_, refl, sym, ap, _∙_}
 use mathlib.Core.Logic.{_≢_}
 use mathlib.Core.Bool.{Bool, true, false, cond}
 use mathlib.Core.List.{List, [], _∷_, List·Memᴰ, List·Memᴰ·head, List·Memᴰ·tail}
-use mathlib.Core.Option.{Option, none, some}
-use lib.Dec.{eqb}
+use mathlib.Core.Option.{none, some}
 use lib.ListN.{length, getD}
-use borrow.Author.Tests.{ne-eqb}
 use Rattle.tag.specs.Tags.{Tag}
 use Rattle.tag.specs.View.{bytesOf}
 use Rattle.tag.specs.declared.Tag.{Tag as Label}
 use Rattle.model.specs.declared.implicit_model.InputList.{InputList}
 use Rattle.model.specs.Model.{Place}
 use Rattle.model.specs.View.{placeOf, rows}
-use Rattle.model.specs.Walk.{gap}
 use Rattle.model.proofs.Laws.Rows.{no-place, rows-length, rows-at}
 use Rattle.model.proofs.Laws.Valid.{some-some, none-some}
 use Rattle.graph.specs.Wiring.{Want, look, fixed, placeWant, wantOf, slotOf}
@@ -36,6 +33,14 @@ names-want (none ∷ l) (List·Memᴰ·head e) = none-some (sym e)
 names-want (none ∷ l) (List·Memᴰ·tail m) = let (p, h, e) = names-want l m in (suc p, omega arith, e)
 names-want (some b ∷ l) (List·Memᴰ·head e) = (0, omega arith, ap look (some-some (sym e)))
 names-want (some b ∷ l) (List·Memᴰ·tail m) = let (p, h, e) = names-want l m in (suc p, omega arith, e)
+
+-- an unassigned place of the list
+pub gap-want : (l : List Place) → List·Memᴰ none l → (p : ℕ) × (p < length l) × (placeWant l p ≡ fixed 193)
+unfolding placeWant
+gap-want [] m = elim m [ ]
+gap-want (none ∷ l) m = (0, omega arith, refl)
+gap-want (some b ∷ l) (List·Memᴰ·head e) = none-some e
+gap-want (some b ∷ l) (List·Memᴰ·tail m) = let (p, h, e) = gap-want l m in (suc p, omega arith, e)
 
 -- a number: unassigned, or past the end
 pub want-fixed : (l : List Place) (p : ℕ) {k : ℕ} → placeWant l p ≡ fixed k → 193 ≤ k

@@ -6,12 +6,12 @@ use native.Mathlib.Decide.{ℕ-discrete, decLt}
 use mathlib.Core.Path.{_≡_, refl, sym, ap, subst, _∙_}
 use mathlib.Core.Logic.{_↔_, _⊎_, inl, inr, ⊎-elim}
 use mathlib.Core.Bool.{Bool, true, false, cond, true≢false, false≢true}
-use mathlib.Core.List.{List, [], _∷_, _++_, List·Memᴰ, List·Memᴰ·head, List·Memᴰ·tail, List·Memᴰ·cases-cons, List·Memᴰ·not-nil, Memᴰ·append-left, Memᴰ·append-right, List·Memᴰ·append-cases, List·Memᴰ·eq-of-singleton}
+use mathlib.Core.List.{List, [], _∷_, _++_, List·Memᴰ·head, List·Memᴰ·tail, List·Memᴰ·cases-cons, List·Memᴰ·not-nil, Memᴰ·append-left, Memᴰ·append-right, List·Memᴰ·append-cases, List·Memᴰ·eq-of-singleton}
 use lib.ListN.{length, getD, take, set, length-append, length-set}
-use lib.Seq.{length-take-le, take-suc-set, getD-set-same, getD-set-other}
+use lib.Seq.{take-suc, length-take-le, take-suc-set, getD-set-same, getD-set-other}
 use lib.Dec.{ltb, eqb}
-use borrow.Author.Tests.{ltb-true, ltb-false, lt-ltb, le-ltb, eqb-true, eqb-false, eq-eqb, ne-eqb}
-use Rattle.graph.specs.Nodes.{_∈_, Reaches, itself, Circular, Laid, IsOrder, keep, node, inputsOf, servedOf, readyOf, nextOf, Listed, IsReach, NextIn}
+use borrow.Author.Tests.{ltb-true, lt-ltb, eqb-true, eqb-false, ne-eqb}
+use Rattle.graph.specs.Nodes.{_∈_, Reaches, itself, Circular, Laid, IsOrder, keep, node, inputsOf, servedOf, readyOf, nextOf, wholeOf, IsReach, NextIn}
 use Rattle.graph.proofs.Laws.Order.{laid-none, laid-more, laid-length, laid-order, stuck-cyclic, reach-in}
 
 -- ---- tests taken apart
@@ -230,3 +230,9 @@ module _ (w at : List ℕ) (n : ℕ) (placed : List ℕ) where
     found = λ lt. absurd (let z : ⊥ = omega arith in z);
     none = λ h′ a m. let (k, lt, e) = take-index at n a m in subst (λ (z : ℕ). nextOf w placed z ≡ false) (sym e) (p .none k (omega arith) lt);
   }
+
+-- ---- whole nodes, one after the other
+
+pub whole-more : (w at : List ℕ) (i : ℕ) → i < length at → ((x : ℕ) → x ∈ take i at → wholeOf w x ≡ true) → wholeOf w (getD at i 0) ≡ true → (x : ℕ) → x ∈ take (i + 1) at → wholeOf w x ≡ true
+whole-more w at i h old new x k = ⊎-elim (old x) (λ j. let q : x ≡ getD at i 0 = List·Memᴰ·eq-of-singleton j in subst (λ (z : ℕ). wholeOf w z ≡ true) (sym q) new)
+    (List·Memᴰ·append-cases (take i at) (subst (λ (l : List ℕ). x ∈ l) (rw add-one (take-suc at i 0 h)) k))

@@ -1,9 +1,7 @@
 -- `graph::computation_graph::compile` meets its contract: `Laws/Answer.antt`. Assumes nothing.
-use native.Mathlib.Omega.{arith}
 use borrow.Author.Needs.{needs}
 use mathlib.Core.Path.{_≡_, sym, ap, subst, _∙_}
 use mathlib.Core.Bool.{true, false}
-use lib.ListN.{take}
 use borrow.Author.Tests.{not-true, not-false}
 use Rattle.tag.specs.Tags.{overlong}
 use Rattle.tag.specs.View.{bytesOf}

@@ -1,7 +1,6 @@
 -- `graph::evaluate::evaluate_at` meets its contract: `Laws/Along.antt`. Assumes nothing.
-use native.Mathlib.Omega.{arith}
 use borrow.Author.Needs.{needs}
-use mathlib.Core.Path.{_≡_, ap, _∙_}
+use mathlib.Core.Path.{ap, _∙_}
 use Rattle.graph.specs.Evaluate.{errorOf, pointOf}
 use Rattle.graph.proofs.Laws.Along.{replies, hands-on}
 use Rattle.graph.proofs.evaluate.evaluate_at.Statement.{statement}

@@ -1,5 +1,4 @@
 -- `graph::evaluate::input` meets its contract. Assumes nothing.
-use native.Mathlib.Omega.{arith}
 use borrow.Author.Needs.{needs}
 use borrow.Author.Tests.{lt-ltb, le-ltb}
 use lib.Ieee.{div, ofBits, ofFields, odd}

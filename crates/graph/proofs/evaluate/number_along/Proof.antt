@@ -1,8 +1,7 @@
 -- `graph::evaluate::number_along` meets its contract: `Laws/Along.antt`. Assumes nothing.
 use native.Mathlib.Omega.{arith}
 use borrow.Author.Needs.{needs}
-use Prim.Native.Nat.{ℕ, _*_, _+_, _≤_, _<_, _-_}
-use mathlib.Core.Path.{_≡_, refl, sym, ap, subst, _∙_}
+use Prim.Native.Nat.{_≤_, _<_, _-_}
 use mathlib.Core.List.{List·Memᴰ·not-nil}
 use lib.Ieee.{Float, binary64, ofBits}
 use lib.ListN.{getD, length-replicate}

@@ -1,5 +1,4 @@
 -- `graph::least::absent_turn` meets its contract. Assumes nothing.
-use native.Mathlib.Omega.{arith}
 use borrow.Author.Needs.{needs}
 use borrow.Author.Tests.{lt-ltb, le-ltb, eq-eqb, ne-eqb}
 use Rattle.graph.proofs.least.absent_turn.Statement.{statement}

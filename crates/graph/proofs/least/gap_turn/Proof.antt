@@ -1,5 +1,4 @@
 -- `graph::least::gap_turn` meets its contract. Assumes nothing.
-use native.Mathlib.Omega.{arith}
 use borrow.Author.Needs.{needs}
 use borrow.Author.Tests.{eq-eqb, ne-eqb}
 use Rattle.graph.proofs.least.gap_turn.Statement.{statement}

@@ -1,5 +1,4 @@
 -- `graph::nodes::can_be_next` meets its contract. Assumes nothing.
-use native.Mathlib.Omega.{arith}
 use borrow.Author.Needs.{needs}
 use borrow.Author.Tests.{eq-eqb, ne-eqb}
 use Rattle.graph.proofs.nodes.can_be_next.Statement.{statement}

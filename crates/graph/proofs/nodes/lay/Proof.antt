@@ -1,6 +1,5 @@
 -- `graph::nodes::lay` meets its contract: `Laws/Wires.antt`. Assumes nothing.
 use native.Mathlib.Omega.{arith}
-use borrow.Author.Needs.{needs}
 use Prim.Native.Nat.{ℕ, _<_, _-_}
 use mathlib.Core.Bool.{true≢false, false≢true}
 use lib.ListN.{length-replicate, getD-replicate}
@@ -18,7 +17,7 @@ loop-holds : tie.Need-loop-holds Inv-loop μ-loop
 loop-holds c = going-start (c .args .w .now) (c .args .t) (c .pre .0) _ _ (length-replicate {A = ℕ} 192 0) (length-replicate {A = ℕ} 192 0) (λ a h. getD-replicate {A = ℕ} 192 a 0 0 h)
 
 array-read-loop : tie.Need-array-read-loop Inv-loop μ-loop
-array-read-loop c = c .before .pre .0
+array-read-loop c = omega (arith, c .before .pre .0)
 
 next-ready-requires : tie.Need-next-ready-requires Inv-loop μ-loop
 next-ready-requires c κs = c .before .before .before .pre .1 .listed

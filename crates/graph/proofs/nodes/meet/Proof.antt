@@ -1,5 +1,4 @@
 -- `graph::nodes::meet` meets its contract: `Laws/Line.antt`. Assumes nothing.
-use native.Mathlib.Omega.{arith}
 use borrow.Author.Needs.{needs}
 use mathlib.Core.Logic.{inl, inr}
 use Rattle.graph.proofs.Laws.Line.{met-same, met-room, met-more}

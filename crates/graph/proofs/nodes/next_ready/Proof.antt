@@ -1,8 +1,7 @@
 -- `graph::nodes::next_ready` meets its contract: `Laws/Wires.antt`. Assumes nothing.
 use native.Mathlib.Omega.{arith}
-use borrow.Author.Needs.{needs}
-use Prim.Native.Nat.{_≤_, _<_, _-_}
-use mathlib.Core.Path.{_≡_, sym, _∙_}
+use Prim.Native.Nat.{_<_, _-_}
+use mathlib.Core.Path.{sym, _∙_}
 use lib.ListN.{getD}
 use Rattle.graph.proofs.Laws.Wires.{Passed, passed-more, passed-end, take-at}
 use Rattle.graph.proofs.nodes.next_ready.Statement.{statement}

@@ -1,6 +1,5 @@
 -- `graph::nodes::reach` meets its contract: `Laws/Line.antt`. Assumes nothing.
 use native.Mathlib.Omega.{arith}
-use borrow.Author.Needs.{needs}
 use Prim.Native.Nat.{_<_, _-_}
 use lib.ListN.{getD}
 use mathlib.Core.Path.{refl}

@@ -1,5 +1,4 @@
 -- `graph::nodes::ready` meets its contract. Assumes nothing.
-use native.Mathlib.Omega.{arith}
 use borrow.Author.Needs.{needs}
 use borrow.Author.Tests.{not-true, not-false}
 use Rattle.graph.proofs.nodes.ready.Statement.{statement}

@@ -1,5 +1,4 @@
 -- `graph::nodes::served` meets its contract. Assumes nothing.
-use native.Mathlib.Omega.{arith}
 use borrow.Author.Needs.{needs}
 use borrow.Author.Tests.{lt-ltb, le-ltb}
 use Rattle.graph.proofs.nodes.served.Statement.{statement}

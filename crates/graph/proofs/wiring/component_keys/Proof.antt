@@ -1,17 +1,15 @@
 -- `graph::wiring::component_keys` meets its contract. Assumes nothing.
 use native.Mathlib.Omega.{arith}
 use borrow.Author.Needs.{needs}
-use Prim.Native.Nat.{ℕ, _≤_, _-_}
-use mathlib.Core.Path.{_≡_}
-use lib.ListN.{length, length-set, length-replicate}
+use Prim.Native.Nat.{_≤_, _-_}
 use Rattle.graph.proofs.wiring.component_keys.Statement.{statement}
 use Rattle.graph.proofs.wiring.component_keys.Tie as tie
 
 abbrev Inv-loop : tie.InvT-loop
-Inv-loop m n keys₀ i₀ keys i = (i ≤ n)
+Inv-loop count table n keys₀ i₀ keys i = (i ≤ n)
 
 abbrev μ-loop : tie.MeasureT-loop
-μ-loop m n keys₀ i₀ keys i = n - i
+μ-loop count table n keys₀ i₀ keys i = n - i
 
 at-most-requires : tie.Need-at-most-requires Inv-loop μ-loop
 at-most-requires c κs = search needs
@@ -22,8 +20,8 @@ loop-holds c = omega arith
 mul-e : tie.Need-mul-e Inv-loop μ-loop
 mul-e c = omega arith
 
-element-copy-out-e : tie.Need-element-copy-out-e Inv-loop μ-loop
-element-copy-out-e c = omega arith
+array-copy-out-e : tie.Need-array-copy-out-e Inv-loop μ-loop
+array-copy-out-e c = omega arith
 
 key-requires : tie.Need-key-requires Inv-loop μ-loop
 key-requires c κs = search needs
@@ -55,7 +53,7 @@ component-keys-spec =
     at-most-requires
     loop-holds
     mul-e
-    element-copy-out-e
+    array-copy-out-e
     key-requires
     mul-keys
     array-write-keys

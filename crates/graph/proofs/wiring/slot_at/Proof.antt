@@ -1,5 +1,4 @@
 -- `graph::wiring::slot_at` meets its contract: `Laws/Places.antt`. Assumes nothing.
-use native.Mathlib.Omega.{arith}
 use borrow.Author.Needs.{needs}
 use mathlib.Core.Path.{_≡_, refl}
 use lib.ListN.{length, length-map}

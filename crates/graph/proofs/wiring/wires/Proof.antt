@@ -1,8 +1,7 @@
 -- `graph::wiring::wires` meets its contract: `Laws/Drawing.antt`. Assumes nothing.
 use native.Mathlib.Omega.{arith}
-use borrow.Author.Needs.{needs}
 use Prim.Native.Nat.{_*_, _<_, _≤_, _-_}
-use lib.ListN.{getD, length}
+use lib.ListN.{getD}
 use mathlib.Core.Path.{_≡_, subst}
 use Rattle.graph.specs.Wiring.{Wired}
 use Rattle.graph.proofs.Laws.Drawing.{wired-start, wired-more}
