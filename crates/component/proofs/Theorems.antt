@@ -1,2 +1,3 @@
--- For other crates. `Setting`: a parameter set keeps the kind, and so the count of inputs.
+-- For other crates. `Setting`: a parameter set keeps the kind, and so the count of inputs. `Count`: no component takes more than three inputs, and a function none.
 pub mod Setting
+pub mod Count
