@@ -1,18 +1,17 @@
 -- Laws of words, strings and rows of edits. Assumes nothing.
 use Prim.Native.Nat.{ℕ, zero, suc, _+_, _*_, _-_, _/_, _%_, _≤_, _<_}
-use mathlib.Core.Path.{_≡_, refl, sym, ap, subst, _∙_}
+use mathlib.Core.Path.{_≡_, refl, sym, ap, _∙_}
 use mathlib.Core.Bool.{Bool, true, false, cond}
-use mathlib.Core.List.{List, [], _∷_}
+use mathlib.Core.List.{List}
 use mathlib.Core.Option.{Option, none, some, Option·map}
 use native.Mathlib.Omega.{arith}
 use lib.ListN.{length, getD, take, drop, List·getD-eq-default, drop-of-length-le, length-drop}
 use lib.Seq.{take-nil, take-all, drop-length}
 use borrow.Author.Tests.{eq-eqb, ne-eqb}
-use lib.Dec.{eqb}
 use lib.Ieee.{Float}
 use Rattle.component.specs.declared.model_component.Component.{Component}
 use Rattle.model.specs.Edit.{Edit, addOperation, addFunction, addComponent, setParameter}
-use Rattle.layout.specs.Words.{two, four, word, text}
+use Rattle.layout.specs.Words.{four, word, text}
 use Rattle.layout.specs.Components.{kinds, componentOf, booleans, settings, dataFrom}
 use Rattle.layout.specs.EditRows.{isSome, textsFit, componentAt, dataAt, given, nine, editAt, ahead, rowsAt, editsOf}
 
