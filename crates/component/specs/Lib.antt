@@ -1,3 +1,4 @@
 pub mod Value
 pub mod Kind
 pub mod Parameter
+pub mod Names

@@ -2,27 +2,13 @@
 use Prim.Native.Nat.{ℕ}
 use mathlib.Core.Bool.{Bool, true, false}
 use lib.IntN.{pos}
-use lib.Ieee.{Float, fin, binary64, add, sub, mul, div, neg}
+use lib.Ieee.{Float, fin, neg}
 use Rattle.float.specs.Extrema.{minimumNumber, maximumNumber}
 use Rattle.geometry.specs.declared.vec3f.Vec3.{Vec3}
+use Rattle.geometry.specs.Operations.{_⊕_, _⊖_, _⊗_, _⊘_}
 use Rattle.geometry.specs.Distance.{toSphere, toTorus}
 use Rattle.component.specs.declared.model_component.Component.{Component}
 use Rattle.component.specs.declared.model_component.Component.the-variants.{Constant, Sphere, Torus, Multiply, Add, Subtract, Divide, Lerp, VariableLerp, Remap, BooleanUnion, BooleanIntersection, BooleanDifference, Offset, Thickness}
-
--- the four operations, each rounded once
-infixl 60 _⊕_ _⊖_
-infixl 70 _⊗_ _⊘_
-abbrev pub _⊕_ : Float → Float → Float
-a ⊕ b = add binary64 a b
-
-abbrev pub _⊖_ : Float → Float → Float
-a ⊖ b = sub binary64 a b
-
-abbrev pub _⊗_ : Float → Float → Float
-a ⊗ b = mul binary64 a b
-
-abbrev pub _⊘_ : Float → Float → Float
-a ⊘ b = div binary64 a b
 
 abbrev pub two : Float
 two = fin false 1 (pos 1)

@@ -2,6 +2,7 @@
 pub mod kind;
 pub mod math;
 pub mod model_component;
+pub mod naming;
 pub mod parameter;
 pub mod reading;
 pub mod setting;

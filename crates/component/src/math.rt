@@ -1,6 +1,6 @@
 // The operations on numbers. Each step is rounded once, in the written order.
 ghost use mathlib.Core.Path.{_≡_};
-ghost use Rattle.component.specs.Value.{_⊕_, _⊖_, _⊗_, _⊘_};
+ghost use Rattle.geometry.specs.Operations.{_⊕_, _⊖_, _⊗_, _⊘_};
 
 pub fn multiply(a: f64, b: f64) -> f64
     ensures { λ r. ⌜ r ≡ a ⊗ b ⌝ }

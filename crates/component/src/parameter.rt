@@ -1,5 +1,6 @@
 // Parameters: what one is set to, and the rules on its number.
 use geometry::vec3f::Vec3;
+use tag::Tag;
 ghost use mathlib.Core.Path.{_≡_};
 ghost use Rattle.component.specs.Parameter.{clamped, tooNear};
 
@@ -7,6 +8,18 @@ pub enum Data {
     Value(f64),
     Vec3(Vec3),
     Boolean(bool),
+}
+
+// What a parameter takes; nothing, where there is no such parameter.
+pub enum DataType {
+    Value,
+    Vec3,
+    Nothing,
+}
+
+pub struct Parameter {
+    pub name: Tag,
+    pub data_type: DataType,
 }
 
 // The difference between 1 and the next double, 2 ^ -52.

@@ -4,7 +4,8 @@ use float::extrema::min;
 ghost use mathlib.Core.Path.{_≡_};
 ghost use lib.Ieee.{neg};
 ghost use Rattle.float.specs.Extrema.{minimumNumber, maximumNumber};
-ghost use Rattle.component.specs.Value.{_⊕_, _⊖_, _⊘_, two};
+ghost use Rattle.geometry.specs.Operations.{_⊕_, _⊖_, _⊘_};
+ghost use Rattle.component.specs.Value.{two};
 
 pub fn boolean_union(a: f64, b: f64) -> f64
     ensures { λ r. ⌜ r ≡ minimumNumber a b ⌝ }

@@ -1,10 +1,10 @@
--- `Keep`: every edit keeps 7. `Walk`: the wiring walk meets what the source reaches, each tag once, and ends by itself. `Free`: a free numbered tag exists. `Alike`: an edit does not see table positions.
+-- `Keep`: every edit keeps 7. `Walk`: the wiring walk meets what the source reaches, each tag once, and ends by itself. `Free`: a free numbered tag exists. `Positions`: an edit does not see table positions.
 -- `Order`: a target closes a cycle or has an order, as long as its reach is large. `Number`: what compiles has one number. `Compile`, `Evaluate`: one answer, and always one.
 -- `Carry`: a form carried into another model. `Agree`: same reach, same everything. `Kept`: a refused edit changes nothing. `Outside`, `Renaming`: which edits spare a form. `Steady`: demand 3.
 pub mod Keep
 pub mod Walk
 pub mod Free
-pub mod Alike
+pub mod Positions
 pub mod Order
 pub mod Number
 pub mod Compile

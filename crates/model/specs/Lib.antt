@@ -6,3 +6,5 @@ pub mod Form
 pub mod Steady
 pub mod Answer
 pub mod View
+pub mod Search
+pub mod Reading

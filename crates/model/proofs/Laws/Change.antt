@@ -7,7 +7,7 @@ use native.Mathlib.Omega.{arith}
 use lib.Dec.{T}
 use lib.ListN.{length}
 use Rattle.tag.specs.Tags.{Tag}
-use Rattle.tag.proofs.Laws.Same.{same?}
+use Rattle.tag.proofs.Laws.Is.{same?}
 use Rattle.model.specs.Table.{Table, find, distinct, cut, put, each, moved, move}
 use Rattle.model.proofs.Laws.Table.{find-cut-same, find-cut-other, find-put-same, find-put-other, find-each}
 use Rattle.model.proofs.Laws.Valid.{Found, some-some, none-some, cut-distinct, put-distinct, length-put, cut-lt}

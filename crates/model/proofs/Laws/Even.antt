@@ -3,7 +3,7 @@ use mathlib.Core.Path.{_≡_, refl, sym, _∙_, ap, subst}
 use mathlib.Core.Bool.{Bool, true, false}
 use mathlib.Core.Option.{Option, none, some, Option·map}
 use Rattle.tag.specs.Tags.{Tag}
-use Rattle.tag.proofs.Laws.Same.{same?}
+use Rattle.tag.proofs.Laws.Is.{same?}
 use Rattle.model.specs.Table.{Table, find, held, cut, put, each, moved, move}
 use Rattle.model.proofs.Laws.Table.{find-cut-same, find-cut-other, find-put-same, find-put-other, held-false, held-true, find-each}
 use Rattle.model.proofs.Laws.Valid.{none-some}

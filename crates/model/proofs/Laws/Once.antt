@@ -8,8 +8,7 @@ use Prim.Native.Nat.{suc, _≤_}
 use native.Mathlib.Omega.{arith}
 use lib.ListN.{length, length-map}
 use Rattle.tag.specs.Tags.{Tag, is}
-use Rattle.tag.proofs.Laws.Is.{is-true}
-use Rattle.tag.proofs.Laws.Same.{same?}
+use Rattle.tag.proofs.Laws.Is.{is-true, same?}
 use Rattle.model.specs.Table.{Table, find}
 
 -- no tag stands twice

@@ -5,8 +5,7 @@ use mathlib.Core.Bool.{Bool, true, false, _||_, cond}
 use mathlib.Core.List.{List, [], _∷_}
 use mathlib.Core.Option.{Option, none, some, Option·map}
 use Rattle.tag.specs.Tags.{Tag, is}
-use Rattle.tag.proofs.Laws.Is.{is-refl, is-true}
-use Rattle.tag.proofs.Laws.Same.{is-false}
+use Rattle.tag.proofs.Laws.Is.{is-refl, is-true, is-false}
 use Rattle.model.specs.Table.{Table, find, held, cut, put, each}
 use Rattle.model.proofs.Laws.Bool.{true→T}
 

@@ -10,8 +10,7 @@ use native.Mathlib.Nat.{le-antisymm}
 use lib.Dec.{T, leb→le, le→leb}
 use lib.ListN.{length}
 use Rattle.tag.specs.Tags.{Tag, is, overlong}
-use Rattle.tag.proofs.Laws.Is.{is-refl, is-true}
-use Rattle.tag.proofs.Laws.Same.{is-false}
+use Rattle.tag.proofs.Laws.Is.{is-refl, is-true, is-false}
 use Rattle.component.specs.Value.{inputCount}
 use Rattle.component.specs.declared.model_component.Component.{Component}
 use Rattle.model.specs.Table.{all, Table, find, held, distinct, cut, put, each}
@@ -185,6 +184,11 @@ abbrev pub Passed : List Bool → Type 0
 Passed [] = Unit {0}
 Passed (b ∷ bs) = T b × Passed bs
 
+-- one fact and the rest
+infixr 5 _▸_
+abbrev pub _▸_ : {A B : Type 0} → A → B → A × B
+x ▸ y = (x, y)
+
 pub passed : (bs : List Bool) → T (all (λ b. b) bs) → Passed bs
 passed [] h = tt
 passed (b ∷ bs) h = (and-T₁ b (all (λ b. b) bs) h, passed bs (and-T₂ b (all (λ b. b) bs) h))
@@ -214,28 +218,11 @@ good m v =
 
 pub good-valid : (m : Model) → Good m → T (valid m)
 unfolding valid
-good-valid m g = unpassed (tests m) (
-  le→leb _ _ (g .few),
-  (
-    le→leb _ _ (g .few-lists),
-    (
-      find-all shortTag (m .components) (g .once) (g .short),
-      (
-        find-all shortTag (m .lists) (g .once-lists) (g .short-lists),
-        (
-          find-all goodList (m .lists) (g .once-lists) (g .places),
-          (
-            g .once,
-            (
-              g .once-lists,
-              (find-all (listed (m .lists)) (m .components) (g .once) (g .counts), (g .names, tt)),
-            ),
-          ),
-        ),
-      ),
-    ),
-  ),
-)
+good-valid m g =
+    unpassed (tests m) (le→leb _ _ (g .few) ▸ le→leb _ _ (g .few-lists)
+    ▸ find-all shortTag (m .components) (g .once) (g .short) ▸ find-all shortTag (m .lists) (g .once-lists) (g .short-lists)
+    ▸ find-all goodList (m .lists) (g .once-lists) (g .places) ▸ g .once ▸ g .once-lists
+    ▸ find-all (listed (m .lists)) (m .components) (g .once) (g .counts) ▸ g .names ▸ tt)
 
 -- a model that 7 lets pass holds no component under an overlong tag
 pub valid-short : (m : Model) (t : Tag) {c : Component} → T (valid m) → component m t ≡ some c → T (not (overlong t))

@@ -10,8 +10,7 @@ use lib.Dec.{T, leb, eqb, eqb→eq, eqb-refl, leb→le, nleb→lt}
 use lib.ListN.{length, take, set, replicate, length-set, length-map, length-replicate}
 use lib.Seq.{take-all}
 use Rattle.tag.specs.Tags.{Tag, is, overlong}
-use Rattle.tag.proofs.Laws.Is.{is-refl}
-use Rattle.tag.proofs.Laws.Same.{same?}
+use Rattle.tag.proofs.Laws.Is.{is-refl, same?}
 use Rattle.component.specs.Value.{inputCount}
 use Rattle.component.specs.Kind.{isFunction, isOperation}
 use Rattle.component.specs.Parameter.{Name, setParameter as parameterSet}

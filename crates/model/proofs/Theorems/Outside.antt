@@ -6,7 +6,7 @@ use mathlib.Core.List.{List, [], _∷_, map, List·Memᴰ, List·Memᴰ·head, L
 use mathlib.Core.Option.{Option, none, some, Option·getD, Option·map}
 use Prim.Native.Nat.{ℕ}
 use Rattle.tag.specs.Tags.{Tag}
-use Rattle.tag.proofs.Laws.Same.{is-false}
+use Rattle.tag.proofs.Laws.Is.{is-false}
 use Rattle.component.specs.Kind.{isOperation}
 use Rattle.component.specs.Parameter.{Name, setParameter as parameterSet}
 use Rattle.component.specs.declared.parameter.Data.{Data}

@@ -7,8 +7,7 @@ use mathlib.Core.Option.{Option, none, some, Option·getD, Option·map}
 use Prim.Native.Nat.{ℕ}
 use native.Mathlib.Omega.{arith}
 use Rattle.tag.specs.Tags.{Tag, is}
-use Rattle.tag.proofs.Laws.Is.{is-refl}
-use Rattle.tag.proofs.Laws.Same.{same?, is-false}
+use Rattle.tag.proofs.Laws.Is.{is-refl, same?, is-false}
 use Rattle.component.specs.declared.model_component.Component.{Component}
 use Rattle.model.specs.Table.{find, move}
 use Rattle.model.specs.Model.{Place, Model, component, list, inputs, Same}

@@ -23,7 +23,9 @@ same-bytes-requires-2 c κs = search needs
 
 returns-2 : tie.Need-returns-2
 unfolding readParameter nameFromMin nameFromMax
-returns-2 c = simp (sym (c .before .before .before .before .same-bytes .ensures) ∙ c .before .before .before .if1 .left, sym (c .before .same-bytes2 .ensures) ∙ c .if2 .taken)
+returns-2 c =
+    let e1 = c .before .before .before in
+    simp (sym (e1 .before .same-bytes .ensures) ∙ e1 .if1 .left, sym (c .before .same-bytes2 .ensures) ∙ c .if2 .taken)
 
 slice-aggregate-same-bytes-3 : tie.Need-slice-aggregate-same-bytes-3
 slice-aggregate-same-bytes-3 c = search needs
@@ -33,7 +35,10 @@ same-bytes-requires-3 c κs = search needs
 
 returns-3 : tie.Need-returns-3
 unfolding readParameter nameFromMin nameFromMax nameToMin
-returns-3 c = simp (sym (c .before .before .before .before .before .before .before .same-bytes .ensures) ∙ c .before .before .before .before .before .before .if1 .left, sym (c .before .before .before .before .same-bytes2 .ensures) ∙ c .before .before .before .if2 .left, sym (c .before .same-bytes3 .ensures) ∙ c .if3 .taken)
+returns-3 c =
+    let e2 = c .before .before .before in
+    let e1 = e2 .before .before .before in
+    simp (sym (e1 .before .same-bytes .ensures) ∙ e1 .if1 .left, sym (e2 .before .same-bytes2 .ensures) ∙ e2 .if2 .left, sym (c .before .same-bytes3 .ensures) ∙ c .if3 .taken)
 
 slice-aggregate-read-named : tie.Need-slice-aggregate-read-named
 slice-aggregate-read-named c = search needs
@@ -43,7 +48,11 @@ read-named-requires c κs = search needs
 
 returns-4 : tie.Need-returns-4
 unfolding readParameter nameFromMin nameFromMax nameToMin nameToMax
-returns-4 c = simp (sym (c .before .before .before .before .before .before .before .before .before .same-bytes .ensures) ∙ c .before .before .before .before .before .before .before .before .if1 .left, sym (c .before .before .before .before .before .before .same-bytes2 .ensures) ∙ c .before .before .before .before .before .if2 .left, sym (c .before .before .before .same-bytes3 .ensures) ∙ c .before .before .if3 .left) (c .read-named .ensures)
+returns-4 c =
+    let e3 = c .before .before in
+    let e2 = e3 .before .before .before in
+    let e1 = e2 .before .before .before in
+    simp (sym (e1 .before .same-bytes .ensures) ∙ e1 .if1 .left, sym (e2 .before .same-bytes2 .ensures) ∙ e2 .if2 .left, sym (e3 .before .same-bytes3 .ensures) ∙ e3 .if3 .left) (c .read-named .ensures)
 
 pub read-remap-spec : {M : Type 1} → statement M
 read-remap-spec =

@@ -23,7 +23,9 @@ same-bytes-requires-2 c κs = search needs
 
 returns-2 : tie.Need-returns-2
 unfolding readParameter nameCentre nameRadius
-returns-2 c = simp (sym (c .before .before .before .before .same-bytes .ensures) ∙ c .before .before .before .if1 .left, sym (c .before .same-bytes2 .ensures) ∙ c .if2 .taken)
+returns-2 c =
+    let e1 = c .before .before .before in
+    simp (sym (e1 .before .same-bytes .ensures) ∙ e1 .if1 .left, sym (c .before .same-bytes2 .ensures) ∙ c .if2 .taken)
 
 slice-aggregate-read-named : tie.Need-slice-aggregate-read-named
 slice-aggregate-read-named c = search needs
@@ -33,7 +35,10 @@ read-named-requires c κs = search needs
 
 returns-3 : tie.Need-returns-3
 unfolding readParameter nameCentre nameRadius nameThickness
-returns-3 c = simp (sym (c .before .before .before .before .before .before .same-bytes .ensures) ∙ c .before .before .before .before .before .if1 .left, sym (c .before .before .before .same-bytes2 .ensures) ∙ c .before .before .if2 .left) (c .read-named .ensures)
+returns-3 c =
+    let e2 = c .before .before in
+    let e1 = e2 .before .before .before in
+    simp (sym (e1 .before .same-bytes .ensures) ∙ e1 .if1 .left, sym (e2 .before .same-bytes2 .ensures) ∙ e2 .if2 .left) (c .read-named .ensures)
 
 pub read-torus-spec : {M : Type 1} → statement M
 read-torus-spec =

@@ -16,7 +16,9 @@ set-apart-requires c κs = search needs
 
 returns : tie.Need-returns
 unfolding setValue nameFromMin
-returns c = simp (sym (c .before .before .same-bytes .ensures) ∙ c .before .if1 .taken) (c .set-apart .ensures)
+returns c =
+    let e1 = c .before in
+    simp (sym (e1 .before .same-bytes .ensures) ∙ e1 .if1 .taken) (c .set-apart .ensures)
 
 slice-aggregate-same-bytes-2 : tie.Need-slice-aggregate-same-bytes-2
 slice-aggregate-same-bytes-2 c = search needs
@@ -29,7 +31,10 @@ set-apart-requires-2 c κs = search needs
 
 returns-2 : tie.Need-returns-2
 unfolding setValue nameFromMin nameFromMax
-returns-2 c = simp (sym (c .before .before .before .before .before .same-bytes .ensures) ∙ c .before .before .before .before .if1 .left, sym (c .before .before .same-bytes2 .ensures) ∙ c .before .if2 .taken) (c .set-apart2 .ensures)
+returns-2 c =
+    let e2 = c .before in
+    let e1 = e2 .before .before .before in
+    simp (sym (e1 .before .same-bytes .ensures) ∙ e1 .if1 .left, sym (e2 .before .same-bytes2 .ensures) ∙ e2 .if2 .taken) (c .set-apart2 .ensures)
 
 slice-aggregate-same-bytes-3 : tie.Need-slice-aggregate-same-bytes-3
 slice-aggregate-same-bytes-3 c = search needs
@@ -42,7 +47,11 @@ set-apart-requires-3 c κs = search needs
 
 returns-3 : tie.Need-returns-3
 unfolding setValue nameFromMin nameFromMax nameToMin
-returns-3 c = simp (sym (c .before .before .before .before .before .before .before .before .same-bytes .ensures) ∙ c .before .before .before .before .before .before .before .if1 .left, sym (c .before .before .before .before .before .same-bytes2 .ensures) ∙ c .before .before .before .before .if2 .left, sym (c .before .before .same-bytes3 .ensures) ∙ c .before .if3 .taken) (c .set-apart3 .ensures)
+returns-3 c =
+    let e3 = c .before in
+    let e2 = e3 .before .before .before in
+    let e1 = e2 .before .before .before in
+    simp (sym (e1 .before .same-bytes .ensures) ∙ e1 .if1 .left, sym (e2 .before .same-bytes2 .ensures) ∙ e2 .if2 .left, sym (e3 .before .same-bytes3 .ensures) ∙ e3 .if3 .taken) (c .set-apart3 .ensures)
 
 slice-aggregate-same-bytes-4 : tie.Need-slice-aggregate-same-bytes-4
 slice-aggregate-same-bytes-4 c = search needs
@@ -55,11 +64,20 @@ set-apart-requires-4 c κs = search needs
 
 returns-4 : tie.Need-returns-4
 unfolding setValue nameFromMin nameFromMax nameToMin nameToMax
-returns-4 c = simp (sym (c .before .before .before .before .before .before .before .before .before .before .before .same-bytes .ensures) ∙ c .before .before .before .before .before .before .before .before .before .before .if1 .left, sym (c .before .before .before .before .before .before .before .before .same-bytes2 .ensures) ∙ c .before .before .before .before .before .before .before .if2 .left, sym (c .before .before .before .before .before .same-bytes3 .ensures) ∙ c .before .before .before .before .if3 .left, sym (c .before .before .same-bytes4 .ensures) ∙ c .before .if4 .taken) (c .set-apart4 .ensures)
+returns-4 c =
+    let e4 = c .before in
+    let e3 = e4 .before .before .before in
+    let e2 = e3 .before .before .before in
+    let e1 = e2 .before .before .before in
+    simp (sym (e1 .before .same-bytes .ensures) ∙ e1 .if1 .left, sym (e2 .before .same-bytes2 .ensures) ∙ e2 .if2 .left, sym (e3 .before .same-bytes3 .ensures) ∙ e3 .if3 .left, sym (e4 .before .same-bytes4 .ensures) ∙ e4 .if4 .taken) (c .set-apart4 .ensures)
 
 returns-5 : tie.Need-returns-5
 unfolding setValue nameFromMin nameFromMax nameToMin nameToMax
-returns-5 c = simp (sym (c .before .before .before .before .before .before .before .before .before .before .same-bytes .ensures) ∙ c .before .before .before .before .before .before .before .before .before .if1 .left, sym (c .before .before .before .before .before .before .before .same-bytes2 .ensures) ∙ c .before .before .before .before .before .before .if2 .left, sym (c .before .before .before .before .same-bytes3 .ensures) ∙ c .before .before .before .if3 .left, sym (c .before .same-bytes4 .ensures) ∙ c .if4 .left)
+returns-5 c =
+    let e3 = c .before .before .before in
+    let e2 = e3 .before .before .before in
+    let e1 = e2 .before .before .before in
+    simp (sym (e1 .before .same-bytes .ensures) ∙ e1 .if1 .left, sym (e2 .before .same-bytes2 .ensures) ∙ e2 .if2 .left, sym (e3 .before .same-bytes3 .ensures) ∙ e3 .if3 .left, sym (c .before .same-bytes4 .ensures) ∙ c .if4 .left)
 
 pub set-remap-spec : {M : Type 1} → statement M
 set-remap-spec =
