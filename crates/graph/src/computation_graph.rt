@@ -1,0 +1,133 @@
+// The compiled form: an order of its components, inputs ahead of users.
+use crate::least::least_absent;
+use crate::least::least_gap;
+use crate::nodes::lay;
+use crate::nodes::reach;
+use crate::wiring::node_of;
+use crate::wiring::resolve;
+use crate::wiring::wires;
+use model::implicit_model::Model;
+use model::model_error::ModelError;
+use model::validity::is_valid;
+use tag::Tag;
+ghost use mathlib.Core.Path.{_≡_};
+ghost use mathlib.Core.Bool.{true, false};
+ghost use lib.ListN.{length};
+ghost use Rattle.tag.specs.Tags.{overlong};
+ghost use Rattle.tag.specs.View.{bytesOf};
+ghost use Rattle.model.specs.View.{passes};
+ghost use Rattle.graph.specs.Nodes.{Copied};
+ghost use Rattle.graph.specs.Compile.{Stopped, CompilesAs};
+
+// How compile ended: with an order of so many, or refused.
+pub enum Compiling {
+    Ordered(usize),
+    Refused(ModelError),
+}
+
+// The answer, with the tag and the index that a refusal carries. The order holds positions of the component table, as many as the answer says.
+// inputs[x * 3 + p] is the position of the component in place p of the one at x; 64 or more where there is no such place.
+pub struct CompiledGraph {
+    pub answer: Compiling,
+    pub tag: Tag,
+    pub index: usize,
+    pub order: [usize; 64],
+    pub inputs: [usize; 192],
+}
+
+// A refusal, with an empty order.
+fn refused(e: ModelError, t: Tag, i: usize) -> CompiledGraph
+    ensures { λ r. ⌜ Stopped e t i r ⌝ }
+{
+    let a = Compiling::Refused(e);
+    CompiledGraph {
+        answer: a,
+        tag: t,
+        index: i,
+        order: [0usize; 64],
+        inputs: [64usize; 192],
+    }
+}
+
+// The first 64 entries of an order.
+fn positions(at: &[usize; 192]) -> [usize; 64]
+    requires { ⌜ length (now at) ≡ 192 ⌝ }
+    ensures { λ r. ⌜ Copied 64 (now (at .entry)) r ⌝ }
+{
+    let mut o = [0usize; 64];
+    let mut i: usize = 0;
+    while i < 64 {
+        o[i] = at[i];
+        i += 1;
+    }
+    o
+}
+
+// The wires of the components.
+fn component_inputs(w: &[usize; 576]) -> [usize; 192]
+    requires { ⌜ length (now w) ≡ 576 ⌝ }
+    ensures { λ r. ⌜ Copied 192 (now (w .entry)) r ⌝ }
+{
+    let mut o = [0usize; 192];
+    let mut i: usize = 0;
+    while i < 192 {
+        o[i] = w[i];
+        i += 1;
+    }
+    o
+}
+
+// Compile after 7 and 1: 14, 12, 13, or an order.
+fn ordered(m: Model, t: Tag) -> CompiledGraph
+    requires { ⌜ (passes m ≡ true) × (overlong (bytesOf t) ≡ false) ⌝ }
+    ensures { λ r. ⌜ CompilesAs m (bytesOf t) r ⌝ }
+{
+    let x = node_of(m, t);
+    if 192 <= x {
+        return refused(ModelError::MissingTag, t, 0);
+    }
+    let found = resolve(m);
+    let w = wires(&found, tag::at_most(m.list_count, 128));
+    let s = reach(&w, x);
+    let line = s.at;
+    let seen = s.seen;
+    let o = lay(&w, &line, s.n, &seen, x);
+    if !o.done {
+        return refused(ModelError::CyclicDependency, t, 0);
+    }
+    let a = least_absent(m, &found, &seen);
+    if a.some {
+        let u = a.tag;
+        return refused(ModelError::MissingTag, u, 0);
+    }
+    let g = least_gap(m, &found, &seen);
+    if g.some {
+        let u = g.tag;
+        return refused(ModelError::MissingInput, u, g.index);
+    }
+    let at = o.at;
+    let c = Compiling::Ordered(o.n);
+    let e = tag::empty_tag();
+    CompiledGraph {
+        answer: c,
+        tag: e,
+        index: 0,
+        order: positions(&at),
+        inputs: component_inputs(&w),
+    }
+}
+
+// The order in which the target's components are computed, or why there is none: 7, 1, 14, 12, 13.
+pub fn compile(m: Model, target: &[u8]) -> CompiledGraph
+    ensures { λ r. ⌜ CompilesAs m (now (target .entry)) r ⌝ }
+{
+    let e = tag::empty_tag();
+    if !is_valid(m) {
+        return refused(ModelError::InvalidModel, e, 0);
+    }
+    if 32 < target.len() {
+        return refused(ModelError::TagTooLong, e, 0);
+    }
+    let t = tag::tag_of(target);
+    ordered(m, t)
+}

@@ -1,0 +1,2 @@
+-- `Setting`: each way out of `set_parameter`.
+pub mod Setting

@@ -1,0 +1,110 @@
+use native.Mathlib.Omega.{arith}
+use borrow.Author.Needs.{needs}
+use mathlib.Core.Path.{_≡_, refl, sym, ap, _∙_, subst}
+use borrow.Author.Tests.{not-true, not-false}
+use Rattle.model.specs.declared.implicit_model.InputList.{InputList}
+use Rattle.model.specs.declared.implicit_model.Model.{Model as Record}
+use Rattle.model.specs.Edit.{done}
+use Rattle.model.proofs.Laws.Rows.{no-list}
+use Rattle.edit.specs.Ends.{Ends}
+use Rattle.edit.specs.Rows.{withList}
+use Rattle.edit.proofs.Laws.Step.{meets-7}
+use Rattle.wiring.proofs.Laws.Wiring.{remove-1, remove-12, remove-3, remove-done}
+use Rattle.wiring.proofs.remove_input.Statement.{statement}
+use Rattle.wiring.proofs.remove_input.Tie as tie
+use Rattle.wiring.proofs.remove_input.Reads as reads
+use Rattle.wiring.proofs.remove_input.Lts as lts
+use Rattle.edit.proofs.done.Reads as done-reads
+use Rattle.edit.proofs.refuse.Reads as refuse-reads
+use Rattle.edit.proofs.refuse_plain.Reads as refuse-plain-reads
+use Rattle.edit.proofs.rows.with_list.Reads as with-list-reads
+use Rattle.model.proofs.find.find_list.Reads as find-list-reads
+use Rattle.model.proofs.find.places_held.Reads as places-held-reads
+use Rattle.model.proofs.validity.is_valid.Reads as is-valid-reads
+use Rattle.tag.proofs.tag_of.Reads as tag-of-reads
+use Rattle.wiring.proofs.placed.Reads as placed-reads
+
+is-valid-requires : tie.Need-is-valid-requires
+is-valid-requires c κs = search needs
+
+refuse-plain-requires : tie.Need-refuse-plain-requires
+refuse-plain-requires c κs = search needs
+
+returns : tie.Need-returns
+returns c = meets-7 (sym (c .before .before .is-valid .ensures) ∙ not-true _ (c .before .if1 .taken)) (c .refuse-plain .ensures)
+
+refuse-plain-requires-2 : tie.Need-refuse-plain-requires-2
+refuse-plain-requires-2 c κs = search needs
+
+returns-2 : tie.Need-returns-2
+returns-2 c = let a = c .before .before .before .before .before .args in remove-1 (a .t1) (a .tag .now) (a .index) _ (sym (c .before .before .before .is-valid .ensures) ∙ not-false _ (c .before .before .if1 .left)) (c .before .if2 .taken) (c .refuse-plain2 .ensures)
+
+tag-of-requires : tie.Need-tag-of-requires
+tag-of-requires c κs = search needs
+
+find-list-requires : tie.Need-find-list-requires
+find-list-requires c κs = search needs
+
+enum-known-f : tie.Need-enum-known-f
+enum-known-f c = search needs
+
+enum-told : tie.Need-enum-told
+enum-told c = search needs
+
+refuse-requires : tie.Need-refuse-requires
+refuse-requires c κs = search needs
+
+returns-3 : tie.Need-returns-3
+returns-3 c = let a = c .before .before .before .before .before .before .before .before .before .args in remove-12 (a .t1) (a .tag .now) (a .index) _ (sym (c .before .before .before .before .before .before .before .is-valid .ensures) ∙ not-false _ (c .before .before .before .before .before .before .if1 .left)) (c .before .before .before .before .before .if2 .left) _ (c .before .before .before .before .tag-of .ensures) _ (c .before .before .before .find-list .ensures) (c .before .enum-told .given .1) (c .refuse .ensures)
+
+mul-l : tie.Need-mul-l
+mul-l c = omega (arith, c .before .before .before .find-list .ensures .within _ (c .before .f .given .1))
+
+element-copy-out-l : tie.Need-element-copy-out-l
+element-copy-out-l c = c .before .before .before .find-list .ensures .within _ (c .before .f .given .1)
+
+places-held-requires : tie.Need-places-held-requires
+places-held-requires c κs = search needs
+
+refuse-requires-2 : tie.Need-refuse-requires-2
+refuse-requires-2 c κs = search needs
+
+returns-4 : tie.Need-returns-4
+returns-4 c = let a = c .before .before .before .before .before .before .before .before .before .before .before .before .before .args in remove-3 (a .t1) (a .tag .now) (a .index) _ (sym (c .before .before .before .before .before .before .before .before .before .before .before .is-valid .ensures) ∙ not-false _ (c .before .before .before .before .before .before .before .before .before .before .if1 .left)) (c .before .before .before .before .before .before .before .before .before .if2 .left) _ (c .before .before .before .before .before .before .before .before .tag-of .ensures) _ (c .before .before .before .before .before .before .before .find-list .ensures) _ (c .before .before .before .before .before .f .given .1) no-list (omega (arith, c .before .before .places-held .ensures .live, c .before .if3 .taken)) (c .refuse2 .ensures)
+
+placed-requires : tie.Need-placed-requires
+placed-requires c κs = omega (arith, c .before .places-held .ensures .bound, c .if3 .left)
+
+with-list-requires : tie.Need-with-list-requires
+with-list-requires c κs = search needs
+
+done-requires : tie.Need-done-requires
+done-requires c κs = search needs
+
+returns-5 : tie.Need-returns-5
+returns-5 c = let a = c .before .before .before .before .before .before .before .before .before .before .before .before .before .before .before .args in remove-done (a .t1) (a .tag .now) (a .index) _ (sym (c .before .before .before .before .before .before .before .before .before .before .before .before .before .is-valid .ensures) ∙ not-false _ (c .before .before .before .before .before .before .before .before .before .before .before .before .if1 .left)) (c .before .before .before .before .before .before .before .before .before .before .before .if2 .left) _ (c .before .before .before .before .before .before .before .before .before .before .tag-of .ensures) _ (c .before .before .before .before .before .before .before .before .before .find-list .ensures) _ (c .before .before .before .before .before .before .before .f .given .1) no-list (omega (arith, c .before .before .before .before .places-held .ensures .live, c .before .before .before .if3 .left)) _ (subst (λ (x : Record). Ends done x (c .done .result)) (c .before .with-list .ensures ∙ ap (λ (x : InputList). withList (a .t1) (c .before .before .before .before .before .before .before .f .given .0 .0) x) (c .before .before .placed .ensures)) (c .done .ensures))
+
+pub remove-input-spec : {M : Type 1} → statement M
+remove-input-spec =
+    tie.close
+    (tie.spec
+    is-valid-requires
+    refuse-plain-requires
+    returns
+    refuse-plain-requires-2
+    returns-2
+    tag-of-requires
+    find-list-requires
+    enum-known-f
+    enum-told
+    refuse-requires
+    returns-3
+    mul-l
+    element-copy-out-l
+    places-held-requires
+    refuse-requires-2
+    returns-4
+    placed-requires
+    with-list-requires
+    done-requires
+    returns-5)

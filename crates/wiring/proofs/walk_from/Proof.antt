@@ -1,0 +1,32 @@
+use native.Mathlib.Omega.{arith}
+use borrow.Author.Needs.{needs}
+use Rattle.edit.proofs.Laws.Tests.{missing}
+use Rattle.wiring.proofs.Laws.Line.{sought-row, wires-absent, wires-row}
+use Rattle.wiring.proofs.walk_from.Statement.{statement}
+use Rattle.wiring.proofs.walk_from.Tie as tie
+use Rattle.wiring.proofs.walk_from.Reads as reads
+use Rattle.wiring.proofs.walk_from.Lts as lts
+use Rattle.model.proofs.find.find_list.Reads as find-list-reads
+use Rattle.wiring.proofs.walk.Reads as walk-reads
+
+find-list-requires : tie.Need-find-list-requires
+find-list-requires c κs = search needs
+
+enum-known-f : tie.Need-enum-known-f
+enum-known-f c = search needs
+
+enum-told : tie.Need-enum-told
+enum-told c = search needs
+
+returns : tie.Need-returns
+returns c = let s = c .before .before .before in wires-absent (s .args .m) (s .args .target) _ (s .pre) (missing (c .before .before .find-list .ensures) (c .enum-told .given .1))
+
+walk-requires : tie.Need-walk-requires
+walk-requires c κs = record { passing = c .before .before .before .before .pre .passing; ends = c .before .before .before .before .pre .ends; starts = sought-row (c .before .before .before .find-list .ensures) (c .before .f .given .1) .within }
+
+returns-2 : tie.Need-returns-2
+returns-2 c = let s = c .before .before .before .before .before in wires-row (s .args .m) (s .args .target) _ _ (sought-row (c .before .before .before .before .find-list .ensures) (c .before .before .f .given .1)) (c .walk .ensures)
+
+pub walk-from-spec : {M : Type 1} → statement M
+walk-from-spec =
+    tie.close (tie.spec find-list-requires enum-known-f enum-told returns walk-requires returns-2)
