@@ -4,7 +4,6 @@ use Prim.Native.Nat.{ℕ, _-_, _<_, _≤_}
 use lib.ListN.{getD, set}
 use lib.Ieee.{nan}
 use Rattle.component.specs.declared.model_component.Component.the-variants.{Constant}
-use Rattle.model.specs.declared.implicit_model.ComponentEntry.{ComponentEntry}
 use Rattle.model.specs.declared.implicit_model.Model.{Model as Record}
 
 -- a component stands at i, among no more than the table has room for

@@ -35,13 +35,13 @@ pub fn remove_component(m: Model, tag: &[u8]) -> Edited
         return edit::refuse_plain(m, ModelError::TagTooLong);
     }
     let t = tag::tag_of(tag);
-    let f = model::find::find_component(m, t);
-    let Found::At(i) = f else {
-        return edit::refuse(m, ModelError::MissingTag, t, 0);
-    };
     let cleared = Place {
         assigned: false,
         tag: t,
+    };
+    let f = model::find::find_component(m, t);
+    let Found::At(i) = f else {
+        return edit::refuse(m, ModelError::MissingTag, t, 0);
     };
     let n = without_entry(m, i);
     edit::done(swapping::places_swapped(n, t, cleared))

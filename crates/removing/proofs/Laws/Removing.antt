@@ -1,20 +1,18 @@
 -- Each way out of `remove_component`. Assumes nothing.
-use mathlib.Core.Path.{_≡_, refl, sym, _∙_, ap, subst}
+use mathlib.Core.Path.{_≡_, refl, sym, ap, subst}
 use mathlib.Core.Bool.{true, false, not}
-use mathlib.Core.List.{List, [], map}
-use mathlib.Core.Option.{none}
-use Prim.Native.Nat.{ℕ, _-_, _<_, _≤_}
+use mathlib.Core.List.{[]}
+use Prim.Native.Nat.{ℕ, _<_, _≤_}
 use native.Mathlib.Omega.{arith}
 use lib.ListN.{length, take}
 use Rattle.tag.specs.declared.Tag.{Tag as Label}
 use Rattle.tag.specs.Tags.{Tag, empty, overlong}
 use Rattle.tag.specs.View.{bytesOf, Labelled, Made}
-use Rattle.component.specs.declared.model_component.Component.{Component}
 use Rattle.model.specs.declared.implicit_model.Model.{Model as Record}
 use Rattle.model.specs.declared.implicit_model.Place.{Place as PlaceRecord}
 use Rattle.model.specs.declared.find.Found.{Found}
 use Rattle.model.specs.declared.find.Found.the-variants.{At, Nothing}
-use Rattle.model.specs.Table.{Table, held, cut}
+use Rattle.model.specs.Table.{held, cut}
 use Rattle.model.specs.Model.{Place, Model}
 use Rattle.model.specs.Edit.{removeComponent, done, edit, without, remove}
 use Rattle.model.specs.View.{placeOf, componentOf, componentsOf, listsOf, entryFits, view, passes}

@@ -19,7 +19,7 @@ abbrev Inv-loop : tie.InvT-loop
 Inv-loop t by places w₀ i₀ w i = (w .tag ≡ w₀ .tag) × (w .count ≡ w₀ .count) × SweptList (bytesOf t) by w₀ w i
 
 abbrev μ-loop : tie.MeasureT-loop
-μ-loop t by places w₀ i₀ w i = places - i
+μ-loop t by places w₀ i₀ w i = 3 - i
 
 places-held-requires : tie.Need-places-held-requires Inv-loop μ-loop
 places-held-requires c κs = search needs

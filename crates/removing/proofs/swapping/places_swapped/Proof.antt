@@ -5,7 +5,7 @@ use mathlib.Core.Path.{_≡_, refl}
 use Prim.Native.Nat.{_-_}
 use Rattle.tag.specs.View.{bytesOf}
 use Rattle.model.specs.View.{placeOf, listOf, placeFits, listFits}
-use Rattle.removing.specs.Swapping.{swapList, PlaceSwapped}
+use Rattle.removing.specs.Swapping.{swapList}
 use Rattle.removing.proofs.Laws.Swept.{swept-start, swept-step}
 use Rattle.removing.proofs.Laws.Swapping.{SweptLists, places-swapped}
 use Rattle.removing.proofs.swapping.places_swapped.Statement.{statement}

@@ -1,0 +1,53 @@
+-- The record with one component more, and with the list put. Assumes nothing.
+use mathlib.Core.Path.{_≡_, refl, sym, _∙_, ap, subst}
+use mathlib.Core.Bool.{Bool, true, false}
+use mathlib.Core.List.{List, [], _∷_}
+use mathlib.Core.Option.{Option, none, some}
+use Prim.Native.Nat.{ℕ, _+_, _<_, _≤_}
+use native.Mathlib.Omega.{arith}
+use lib.Dec.{T}
+use lib.ListN.{length, getD, set}
+use Rattle.tag.specs.declared.Tag.{Tag as Label}
+use Rattle.tag.specs.Tags.{Tag}
+use Rattle.tag.specs.View.{bytesOf, tagFits, Labelled}
+use Rattle.component.specs.declared.model_component.Component.{Component}
+use Rattle.model.specs.declared.implicit_model.ComponentEntry.{ComponentEntry}
+use Rattle.model.specs.declared.implicit_model.InputList.{InputList}
+use Rattle.model.specs.declared.implicit_model.Model.{Model as Record}
+use Rattle.model.specs.Table.{Table, find, put}
+use Rattle.model.specs.Model.{Place, Same}
+use Rattle.model.specs.View.{placeOf, placeFits, componentOf, listOf, entryFits, listFits, componentsOf, listsOf, view}
+use Rattle.model.proofs.Laws.Bool.{true→T}
+use Rattle.model.proofs.Laws.Changes.{becomes-refl}
+use Rattle.model.proofs.Laws.Standing.{Standing, same-view}
+use Rattle.edit.proofs.Laws.Stored.{Stored, more-row}
+
+-- the component c under u, the default e, and the lists ls of which n are live
+abbrev pub grown : Record → Label → Component → Label → List InputList → ℕ → Record
+grown m u c e ls n = record {
+  components = set (m .components) (m .«component_count») (record { tag = u; component = c });
+  «component_count» = m .«component_count» + 1;
+  lists = ls;
+  «list_count» = n;
+  default = record { assigned = true; tag = e };
+}
+
+module _ (m : Record) (g : Standing m) (size : length (m .components) ≡ 64) (k : m .«component_count» < 64) {t : Tag} {u : Label} (lt : Labelled t u) {a : Tag} {e : Label} (la : Labelled a e)
+    (c : Component) (free : find t (componentsOf m) ≡ none) where
+  more : Stored componentOf entryFits (put t c (componentsOf m)) (m .«component_count» + 1) (set (m .components) (m .«component_count») (record { tag = u; component = c }))
+  more = more-row componentOf entryFits (m .components) (m .«component_count») t c (record { tag = u; component = c }) (ap (λ (b : Tag). (b, c)) (lt .bytes)) (true→T (tagFits u) (lt .short))
+      (g .once) (g .entries) free (omega arith)
+
+  module _ {w : Table (List Place)} (ls : List InputList) (n : ℕ) (few : n ≤ 128) (s : Stored listOf listFits w n ls) where
+    pub grown-stands : Standing (grown m u c e ls n)
+    unfolding placeFits
+    grown-stands = record {
+      few = omega arith; few-lists = few; entries = more .fits; lists = s .fits; default = true→T (tagFits e) (la .short); once = more .becomes .once; once-lists = s .becomes .once }
+
+    pub grown-same : Same (record { components = put t c (componentsOf m); lists = w; default = some a }) (view (grown m u c e ls n))
+    unfolding view placeOf
+    grown-same = same-view (grown m u c e ls n) (more .becomes) (s .becomes) (ap some (sym (la .bytes)))
+
+-- the lists as they were
+pub lists-stay : (m : Record) → Standing m → Stored listOf listFits (listsOf m) (m .«list_count») (m .lists)
+lists-stay m g = record { becomes = becomes-refl (g .once-lists); fits = g .lists }

@@ -1,0 +1,101 @@
+use native.Mathlib.Omega.{arith}
+use borrow.Author.Needs.{needs}
+use mathlib.Core.Path.{_≡_, refl, sym, ap, _∙_, subst}
+use lib.ListN.{length, length-map}
+use borrow.Author.Tests.{not-true, not-false}
+use Rattle.tag.specs.View.{bytesOf}
+use Rattle.model.specs.declared.implicit_model.Model.{Model as Record}
+use Rattle.model.specs.Edit.{made}
+use Rattle.edit.specs.Ends.{Ends}
+use Rattle.adding.proofs.Laws.Plain.{plain-7, plain-1, plain-4, plain-11, plain-15, plain-done}
+use Rattle.adding.proofs.add_plain.Statement.{statement}
+use Rattle.adding.proofs.add_plain.Tie as tie
+use Rattle.adding.proofs.add_plain.Reads as reads
+use Rattle.adding.proofs.add_plain.Lts as lts
+use Rattle.adding.proofs.with_more.Reads as with-more-reads
+use Rattle.edit.proofs.made.Reads as made-reads
+use Rattle.edit.proofs.refuse.Reads as refuse-reads
+use Rattle.edit.proofs.refuse_plain.Reads as refuse-plain-reads
+use Rattle.model.proofs.find.find_component.Reads as find-component-reads
+use Rattle.model.proofs.validity.is_valid.Reads as is-valid-reads
+use Rattle.tag.proofs.tag_of.Reads as tag-of-reads
+
+size : (s : tie.Start) → length (s .args .m .components) ≡ 64
+size s = simp length-map at (s .good .0 .1 .1 .0 .1 .0 .1)
+
+is-valid-requires : tie.Need-is-valid-requires
+is-valid-requires c κs = search needs
+
+refuse-plain-requires : tie.Need-refuse-plain-requires
+refuse-plain-requires c κs = search needs
+
+returns : tie.Need-returns
+returns c = let a = c .before .before .before .before .args in plain-7 (a .m) (a .tag .now) (a .c) (a .fits) _ (sym (c .before .before .is-valid .ensures) ∙ not-true _ (c .before .if1 .taken)) (c .refuse-plain .ensures)
+
+refuse-plain-requires-2 : tie.Need-refuse-plain-requires-2
+refuse-plain-requires-2 c κs = search needs
+
+returns-2 : tie.Need-returns-2
+returns-2 c = let a = c .before .before .before .before .before .args in plain-1 (a .m) (a .tag .now) (a .c) (a .fits) _ (sym (c .before .before .before .is-valid .ensures) ∙ not-false _ (c .before .before .if1 .left)) (c .before .if2 .taken) (c .refuse-plain2 .ensures)
+
+tag-of-requires : tie.Need-tag-of-requires
+tag-of-requires c κs = search needs
+
+refuse-requires : tie.Need-refuse-requires
+refuse-requires c κs = search needs
+
+returns-3 : tie.Need-returns-3
+returns-3 c = let a = c .before .before .before .before .before .before .before .args in plain-4 (a .m) (a .tag .now) (a .c) (a .fits) _ (sym (c .before .before .before .before .before .is-valid .ensures) ∙ not-false _ (c .before .before .before .before .if1 .left)) (c .before .before .before .if2 .left) _ (c .before .before .tag-of .ensures) (not-true _ (c .before .if3 .taken)) (c .refuse .ensures)
+
+find-component-requires : tie.Need-find-component-requires
+find-component-requires c κs = search needs
+
+enum-told : tie.Need-enum-told
+enum-told c = search needs
+
+refuse-requires-2 : tie.Need-refuse-requires-2
+refuse-requires-2 c κs = search needs
+
+returns-4 : tie.Need-returns-4
+returns-4 c = let a = c .before .before .before .before .before .before .before .before .before .before .args in plain-11 (a .m) (a .tag .now) (a .c) (a .fits) _ (sym (c .before .before .before .before .before .before .before .before .is-valid .ensures) ∙ not-false _ (c .before .before .before .before .before .before .before .if1 .left)) (c .before .before .before .before .before .before .if2 .left) _ (c .before .before .before .before .before .tag-of .ensures) (not-false _ (c .before .before .before .before .if3 .left)) _ (c .before .before .before .find-component .ensures) (c .before .enum-told .given .1) (c .refuse2 .ensures)
+
+enum-told-2 : tie.Need-enum-told-2
+enum-told-2 c = search needs
+
+refuse-plain-requires-3 : tie.Need-refuse-plain-requires-3
+refuse-plain-requires-3 c κs = search needs
+
+returns-5 : tie.Need-returns-5
+returns-5 c = let a = c .before .before .before .before .before .before .before .before .before .before .before .before .args in plain-15 (a .m) (a .tag .now) (a .c) (a .fits) _ (sym (c .before .before .before .before .before .before .before .before .before .before .is-valid .ensures) ∙ not-false _ (c .before .before .before .before .before .before .before .before .before .if1 .left)) (c .before .before .before .before .before .before .before .before .if2 .left) _ (c .before .before .before .before .before .before .before .tag-of .ensures) (not-false _ (c .before .before .before .before .before .before .if3 .left)) _ (c .before .before .before .before .before .find-component .ensures) (c .before .before .before .enum-told2 .given .1) (size (c .before .before .before .before .before .before .before .before .before .before .before .before)) (c .before .if4 .taken) (c .refuse-plain3 .ensures)
+
+with-more-requires : tie.Need-with-more-requires
+with-more-requires c κs = search needs
+
+made-requires : tie.Need-made-requires
+made-requires c κs = search needs
+
+returns-6 : tie.Need-returns-6
+returns-6 c = let a = c .before .before .before .before .before .before .before .before .before .before .before .before .before .args in plain-done (a .m) (a .tag .now) (a .c) (a .fits) _ (sym (c .before .before .before .before .before .before .before .before .before .before .before .is-valid .ensures) ∙ not-false _ (c .before .before .before .before .before .before .before .before .before .before .if1 .left)) (c .before .before .before .before .before .before .before .before .before .if2 .left) _ (c .before .before .before .before .before .before .before .before .tag-of .ensures) (not-false _ (c .before .before .before .before .before .before .before .if3 .left)) _ (c .before .before .before .before .before .before .find-component .ensures) (c .before .before .before .before .enum-told2 .given .1) (size (c .before .before .before .before .before .before .before .before .before .before .before .before .before)) (c .before .before .if4 .left) (subst (λ (x : Record). Ends (made (bytesOf (c .before .before .before .before .before .before .before .before .tag-of .result))) x (c .made .result)) (c .before .with-more .ensures) (c .made .ensures))
+
+pub add-plain-spec : {M : Type 1} → statement M
+add-plain-spec =
+    tie.close
+    (tie.spec
+    is-valid-requires
+    refuse-plain-requires
+    returns
+    refuse-plain-requires-2
+    returns-2
+    tag-of-requires
+    refuse-requires
+    returns-3
+    find-component-requires
+    enum-told
+    refuse-requires-2
+    returns-4
+    enum-told-2
+    refuse-plain-requires-3
+    returns-5
+    with-more-requires
+    made-requires
+    returns-6)

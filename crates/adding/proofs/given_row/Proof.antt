@@ -1,0 +1,24 @@
+use native.Mathlib.Omega.{arith}
+use borrow.Author.Needs.{needs}
+use mathlib.Core.Path.{_≡_, refl, sym, ap, _∙_, subst}
+use Rattle.adding.proofs.Laws.Inputs.{given-row}
+use Rattle.adding.proofs.given_row.Statement.{statement}
+use Rattle.adding.proofs.given_row.Tie as tie
+use Rattle.adding.proofs.given_row.Reads as reads
+use Rattle.adding.proofs.given_row.Lts as lts
+use Rattle.tag.proofs.tag_of.Reads as tag-of-reads
+
+tag-of-requires : tie.Need-tag-of-requires
+tag-of-requires c κs = search needs
+
+tag-of-requires-2 : tie.Need-tag-of-requires-2
+tag-of-requires-2 c κs = search needs
+
+tag-of-requires-3 : tie.Need-tag-of-requires-3
+tag-of-requires-3 c κs = search needs
+
+returns : tie.Need-returns
+returns c = let s = c .before .before .before .before .before .before in given-row (s .args .a .now) (s .args .b .now) (s .args .d .now) _ _ _ (c .before .before .tag-of .ensures) (c .before .tag-of2 .ensures) (c .tag-of3 .ensures) (s .args .t) (s .args .k) (s .pre)
+
+pub given-row-spec : {M : Type 1} → statement M
+given-row-spec = tie.close (tie.spec tag-of-requires tag-of-requires-2 tag-of-requires-3 returns)

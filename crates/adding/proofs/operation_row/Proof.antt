@@ -1,0 +1,25 @@
+use native.Mathlib.Omega.{arith}
+use borrow.Author.Needs.{needs}
+use mathlib.Core.Path.{_≡_, refl, sym, ap, _∙_, subst}
+use Rattle.adding.proofs.operation_row.Statement.{statement}
+use Rattle.adding.proofs.operation_row.Tie as tie
+use Rattle.adding.proofs.operation_row.Reads as reads
+use Rattle.adding.proofs.operation_row.Lts as lts
+use Rattle.adding.proofs.given_row.Reads as given-row-reads
+use Rattle.adding.proofs.unassigned_row.Reads as unassigned-row-reads
+
+given-row-requires : tie.Need-given-row-requires
+given-row-requires c κs = c .before .before .before .before .pre .1 (c .if1 .taken)
+
+returns : tie.Need-returns
+returns c = rw (c .before .if1 .taken) (c .given-row .ensures)
+
+unassigned-row-requires : tie.Need-unassigned-row-requires
+unassigned-row-requires c κs = search needs
+
+returns-2 : tie.Need-returns-2
+returns-2 c = rw (c .before .if1 .left) (c .unassigned-row .ensures)
+
+pub operation-row-spec : {M : Type 1} → statement M
+operation-row-spec =
+    tie.close (tie.spec given-row-requires returns unassigned-row-requires returns-2)
