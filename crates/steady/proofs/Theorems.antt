@@ -1,0 +1,2 @@
+-- `Newest`: the newest tag is the one that sparing speaks of.
+pub mod Newest
