@@ -1,0 +1,2 @@
+-- `Theorems`: the round trip. `Laws`: what the functions' proofs cite.
+mod Laws
