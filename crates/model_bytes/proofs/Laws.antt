@@ -3,3 +3,6 @@ pub mod Tests
 pub mod Reading
 pub mod Decoding
 pub mod Sizes
+pub mod Local
+pub mod Writing
+pub mod Encoding

@@ -1,2 +1,3 @@
--- `Theorems`: the round trip. `Laws`: what the functions' proofs cite.
+-- `Theorems`: the round trip, and a model in bytes worked out. `Laws`: what the functions' proofs cite.
 mod Laws
+pub mod Theorems

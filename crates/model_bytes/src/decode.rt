@@ -12,7 +12,7 @@ use model::implicit_model::Place;
 use tag::Tag;
 ghost use mathlib.Core.Path.{_≡_};
 ghost use mathlib.Core.Bool.{false};
-ghost use Prim.Native.Nat.{_+_, _≤_};
+ghost use Prim.Native.Nat.{_+_, _-_, _≤_};
 ghost use lib.ListN.{length, take, drop};
 ghost use Rattle.tag.specs.View.{bytesOf, tagFits};
 ghost use Rattle.model.specs.View.{placeOf, placeFits, componentOf, entryFits, listOf, listFits};
@@ -62,14 +62,14 @@ pub struct ListsRead {
     pub table: [InputList; 128],
 }
 
-// Whether n bytes from a place on are 0.
-fn is_blank(s: &[u8], at: usize, n: usize) -> bool
-    requires { ⌜ at + n ≤ length (now s) ⌝ }
-    ensures { λ r. ⌜ r ≡ blank (now (s .entry)) at n ⌝ }
+// Whether the bytes from a place up to another are 0.
+fn is_blank(s: &[u8], start: usize, end: usize) -> bool
+    requires { ⌜ (start ≤ end) × (end ≤ length (now s)) ⌝ }
+    ensures { λ r. ⌜ r ≡ blank (now (s .entry)) start (end - start) ⌝ }
 {
-    let mut i: usize = 0;
-    while i < n {
-        if s[at + i] != 0 {
+    let mut i: usize = start;
+    while i < end {
+        if s[i] != 0 {
             return false;
         }
         i += 1;
@@ -108,7 +108,7 @@ fn read_text(s: &[u8], at: usize, n: usize) -> TagRead
     if 32 < n {
         return no_tag();
     }
-    if !is_blank(s, at + n, 32 - n) {
+    if !is_blank(s, at + n, at + 32) {
         return no_tag();
     }
     let bytes = copy_32(s, at);
@@ -133,7 +133,7 @@ fn read_place(s: &[u8], at: usize) -> PlaceRead
 {
     let n = read_word(s, at) as usize;
     if n == 0 {
-        let unassigned = is_blank(s, at + 8, 32);
+        let unassigned = is_blank(s, at + 8, at + 40);
         let tag = tag::empty_tag();
         let place = Place {
             assigned: false,
@@ -314,7 +314,7 @@ fn read_list(s: &[u8], at: usize) -> ListRead
     if 3 < n {
         return no_list();
     }
-    if !is_blank(s, at + 48 + 40 * n, 40 * (3 - n)) {
+    if !is_blank(s, at + 48 + 40 * n, at + 168) {
         return no_list();
     }
     let read = read_places(s, at + 48, n);

@@ -45,6 +45,22 @@ blank-fail s at i (suc n) h q = go (eq-or-lt-of-le (le-of-suc-le-suc h)) (λ l. 
     go (inl e) r = and-false (blank s at n) (ap (λ (k : ℕ). eqb (getD s (at + k) 0) 0) (sym e) ∙ ne-eqb (getD s (at + i) 0) 0 q)
     go (inr l) r = ap (λ (b : Bool). b && eqb (getD s (at + n) 0) 0) (r l)
 
+-- the same, up to an end
+module _ (s : List ℕ) (start i : ℕ) (h : start ≤ i) where
+  at-i : start + (i - start) ≡ i
+  at-i = omega arith
+
+  pub blank-next : blank s start (i - start) ≡ true → getD s i 0 ≡ 0 → blank s start (i + 1 - start) ≡ true
+  blank-next p q =
+      ap (blank s start) (let z : i + 1 - start ≡ i - start + 1 = omega arith in z)
+      ∙ blank-more s start (i - start) p (ap (λ (k : ℕ). getD s k 0) at-i ∙ q)
+
+  pub blank-stop : (end : ℕ) → i < end → (getD s i 0 ≡ 0 → ⊥) → blank s start (end - start) ≡ false
+  blank-stop end l q = blank-fail s start (i - start) (end - start) (omega arith) (λ e. q (sym (ap (λ (k : ℕ). getD s k 0) at-i) ∙ e))
+
+pub blank-as : (s : List ℕ) (at end n : ℕ) {b : Bool} → b ≡ blank s at (end - at) → end - at ≡ n → blank s at n ≡ b
+blank-as s at end n e q = ap (blank s at) (sym q) ∙ sym e
+
 pub copy-more : (b s : List ℕ) (at j : ℕ) → j < length b → at + j < length s → take j b ≡ take j (drop at s) → take (j + 1) (set b j (getD s (at + j) 0)) ≡ take (j + 1) (drop at s)
 copy-more b s at j hb hs e =
     let h : j < length (drop at s) = simp length-drop (omega arith) in
