@@ -21,7 +21,7 @@ add-is-blank-2 : tie.Need-add-is-blank-2
 add-is-blank-2 c = search needs
 
 is-blank-requires : tie.Need-is-blank-requires
-is-blank-requires c κs = search needs
+is-blank-requires c κs = omega arith
 
 no-tag-requires-2 : tie.Need-no-tag-requires-2
 no-tag-requires-2 c κs = search needs
