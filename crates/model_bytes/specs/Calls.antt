@@ -1,0 +1,33 @@
+-- What decoding and encoding answer. Definitions only.
+use Prim.Native.Nat.{ℕ, _+_, _*_, _≤_, _<_}
+use mathlib.Core.Path.{_≡_}
+use mathlib.Core.Bool.{Bool, true, false, _&&_}
+use mathlib.Core.List.{List}
+use mathlib.Core.Option.{Option, none, some, Option·getD}
+use lib.Dec.{eqb}
+use lib.ListN.{length, getD}
+use Rattle.model.specs.declared.implicit_model.Model.{Model as Record}
+use Rattle.model.specs.Model.{new}
+use Rattle.model.specs.View.{view, fits}
+use Rattle.layout.specs.EditRows.{isSome}
+use Rattle.model_bytes.specs.declared.decode.Decoded.{Decoded}
+use Rattle.model_bytes.specs.ModelBytes.{modelIn}
+
+-- decoded: whether the bytes hold a model, and a record of it; of a new model where they hold none
+pub record Decodes (s : List ℕ) (r : Decoded) : Type 0 where
+  pub answer : r .ok ≡ isSome (modelIn s)
+  pub holds : view (r .model) ≡ Option·getD (modelIn s) new
+  pub sizes : fits (r .model) ≡ true
+
+-- t is s but for the header and the first n and k rows of its tables
+pub record Spares (n k : ℕ) (s t : List ℕ) : Type 0 where
+  pub size : length t ≡ length s
+  pub components : (i : ℕ) → 64 + 88 * n ≤ i → i < 5696 → getD t i 0 ≡ getD s i 0
+  pub lists : (i : ℕ) → 5696 + 168 * k ≤ i → getD t i 0 ≡ getD s i 0
+
+-- encoded into s, which is t afterwards: where there is room and the record fits, t holds what the record holds, and rows past its counts are as they were; else nothing is changed
+pub record Encodes (m : Record) (s t : List ℕ) (r : Bool) : Type 0 where
+  pub answer : r ≡ (eqb (length s) 27200 && fits m)
+  pub holds : r ≡ true → modelIn t ≡ some (view m)
+  pub spares : Spares (m .«component_count») (m .«list_count») s t
+  pub kept : r ≡ false → t ≡ s

@@ -1,0 +1,3 @@
+pub mod ModelBytes
+pub mod Calls
+pub mod Steps

@@ -1,0 +1,4 @@
+// A model in bytes that the host lends (docs/LAYOUT.md, "A model").
+pub mod decode;
+pub mod encode;
+pub mod sizes;
