@@ -47,7 +47,7 @@ pub record CompilesAs (m : Record) (t : Tag) (r : CompiledGraph) : Type 0 where
   pub held : (i : ℕ) → List·Memᴰ i (positionsOf r) → i < length (componentsOf m)
   -- an order carries no tag and no index
   pub plain : (n : ℕ) → r .answer ≡ Ordered n → (bytesOf (r .tag) ≡ empty) × (r .index ≡ 0)
-  -- what stands in the places of a component of the order: a component's position; 193 and on where there is none
+  -- what stands in the places of a component of the order: a component's position; 194 past the end of its list
   pub wired : (i p : ℕ) → List·Memᴰ i (positionsOf r) → p < 3 → getD (r .inputs) (i * 3 + p) 0 ≡ settled m (placeWant (inputs (view m) (tagAt m i)) p)
 
 -- a refusal
