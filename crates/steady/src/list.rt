@@ -5,7 +5,7 @@ use model::implicit_model::Model;
 ghost use Rattle.steady.specs.Steps.{tagAt, Listed};
 
 // Every row run, each on the model that the one before left.
-pub fn run_list(m: Model, s: &[u8], target: &[u8]) -> Run
+pub(crate) fn run_list(m: Model, s: &[u8], target: &[u8]) -> Run
     ensures { λ r. ⌜ Listed (now (s .entry)) m (now (target .entry)) (r .model) (tagAt (now (target .entry)) (now (s .entry)) (r .place)) ⌝ }
 {
     let n = s.len() / 256;

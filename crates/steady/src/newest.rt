@@ -36,7 +36,7 @@ fn renamed_place(target: &[u8], s: &[u8], at: usize, place: usize) -> usize
 }
 
 // The place after a rename: only one that is taken moves it.
-pub fn place_after(answer: Answer, target: &[u8], s: &[u8], at: usize, place: usize) -> usize
+pub(crate) fn place_after(answer: Answer, target: &[u8], s: &[u8], at: usize, place: usize) -> usize
     requires { ⌜ at + 256 ≤ length (now s) ⌝ }
     ensures { λ r. ⌜ tagAt (now (target .entry)) (now (s .entry)) r ≡ afterRename (answerOf answer) (text (now (s .entry)) (at + 64)) (text (now (s .entry)) (at + 112)) (tagAt (now (target .entry)) (now (s .entry)) place) ⌝ }
 {

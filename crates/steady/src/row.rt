@@ -21,7 +21,7 @@ ghost use Rattle.layout.specs.EditRows.{given};
 ghost use Rattle.steady.specs.Steps.{tagAt, Runs, Stepped};
 
 // A model, and the place of the target's newest tag.
-pub struct Run {
+pub(crate) struct Run {
     pub model: Model,
     pub place: usize,
 }
@@ -111,7 +111,7 @@ fn run_rename(m: Model, s: &[u8], at: usize, target: &[u8], place: usize) -> Run
 }
 
 // The row run, by its number.
-pub fn run_row(m: Model, s: &[u8], at: usize, target: &[u8], place: usize) -> Run
+pub(crate) fn run_row(m: Model, s: &[u8], at: usize, target: &[u8], place: usize) -> Run
     requires { ⌜ at + 256 ≤ length (now s) ⌝ }
     ensures { λ r. ⌜ Stepped (now (s .entry)) at m (tagAt (now (target .entry)) (now (s .entry)) place) (r .model) (tagAt (now (target .entry)) (now (s .entry)) (r .place)) ⌝ }
 {
