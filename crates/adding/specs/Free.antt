@@ -18,7 +18,6 @@ pub record Nameable (m : Record) (t : Label) : Type 0 where
   pub passing : passes m ≡ true
   pub short : tagFits t ≡ true
 
-
 -- the first free tag, if it fits
 pub record FreeTag (cs : Table Component) (t : Tag) (r : Numbered) : Type 0 where
   pub free : r .fits ≡ true → freeTag cs t ≡ some (bytesOf (r .tag))

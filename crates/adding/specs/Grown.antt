@@ -1,7 +1,7 @@
 -- The record with one component more, and with a list put. Definitions only.
 use mathlib.Core.Path.{_≡_}
 use mathlib.Core.Bool.{Bool, true, false}
-use Prim.Native.Nat.{ℕ, _+_}
+use Prim.Native.Nat.{_+_}
 use lib.Dec.{leb}
 use lib.ListN.{set}
 use Rattle.tag.specs.declared.Tag.{Tag as Label}

@@ -199,7 +199,16 @@ fn put_list(m: Model, l: InputList, f: Found) -> Model
 }
 
 // `inputs` are none, or n tags of which the first three at most are looked at.
-pub fn add_operation(m: Model, tag: &[u8], c: Component, given: bool, n: usize, a: &[u8], b: &[u8], d: &[u8]) -> Edited
+pub fn add_operation(
+    m: Model,
+    tag: &[u8],
+    c: Component,
+    given: bool,
+    n: usize,
+    a: &[u8],
+    b: &[u8],
+    d: &[u8],
+) -> Edited
     ensures { λ r. ⌜ Meets (addOperation (now (tag .entry)) c (inputsOf given n (now (a .entry)) (now (b .entry)) (now (d .entry)))) m r ⌝ }
 {
     if !model::validity::is_valid(m) {
@@ -242,10 +251,7 @@ fn free_tag(m: Model, t: Tag) -> Numbered
 {
     let f = model::find::find_component(m, t);
     if let Found::Nothing = f {
-        return Numbered {
-            fits: true,
-            tag: t,
-        };
+        return Numbered { fits: true, tag: t };
     }
     let mut left = model::find::components_held(m) + 1;
     let mut k: usize = 1;

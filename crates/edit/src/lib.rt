@@ -2,7 +2,9 @@
 pub mod rows;
 
 use model::implicit_model::Model;
-use model::model_error::{Answer, Ending, ModelError};
+use model::model_error::Answer;
+use model::model_error::Ending;
+use model::model_error::ModelError;
 use tag::Tag;
 ghost use mathlib.Core.List.{[]};
 ghost use Rattle.tag.specs.View.{bytesOf};

@@ -132,8 +132,8 @@ pub fn remove_input(m: Model, tag: &[u8], index: usize) -> Edited
         return edit::refuse(m, ModelError::MissingTag, t, 0);
     };
     let l = m.lists[i];
-    let n = model::find::places_held(l);
-    if n <= index {
+    let held = model::find::places_held(l);
+    if held <= index {
         return edit::refuse(m, ModelError::InputIndexOutOfRange, t, index);
     }
     let p = Place {

@@ -2,9 +2,9 @@
 use mathlib.Core.Path.{_≡_, refl, sym, _∙_, ap, subst}
 use mathlib.Core.Logic.{_⊎_, inl, inr}
 use mathlib.Core.Bool.{Bool, true, false, not, cond}
-use mathlib.Core.List.{List, []}
+use mathlib.Core.List.{[]}
 use mathlib.Core.Option.{Option, none, some}
-use Prim.Native.Nat.{ℕ, _<_, _≤_}
+use Prim.Native.Nat.{_<_, _≤_}
 use lib.Dec.{T}
 use lib.ListN.{length, take, replicate}
 use Rattle.tag.specs.declared.Tag.{Tag as Label}
@@ -18,8 +18,7 @@ use Rattle.model.specs.declared.implicit_model.InputList.{InputList}
 use Rattle.model.specs.declared.implicit_model.Model.{Model as Record}
 use Rattle.model.specs.declared.find.Found.{Found}
 use Rattle.model.specs.Table.{find}
-use Rattle.model.specs.Model.{Place}
-use Rattle.model.specs.Edit.{addComponent, made, Outcome, check, edit, addAny, addFree, addUnder, freeTag, full, listsFull, withComponent, withOperation}
+use Rattle.model.specs.Edit.{addComponent, made, check, edit, addAny, addFree, addUnder, freeTag, full, listsFull, withComponent, withOperation}
 use Rattle.model.specs.View.{componentsOf, listsOf, view, passes}
 use Rattle.model.specs.Search.{Sought}
 use Rattle.model.proofs.Laws.Bool.{true→T}
@@ -62,7 +61,7 @@ module _ (m : Record) (t : Tag) (c : Component) (r : Edited) (v : passes m ≡ t
     unfolding addAny view
     into o e s =
         on (skip (overlong t) 1 empty 0 (short t st)
-          (subst (λ (p : Option Tag). Step (addFree (view m) t c p) m r) (sym (ap (freeTag (componentsOf m)) (sym (lt .bytes)) ∙ e)) s))
+        (subst (λ (p : Option Tag). Step (addFree (view m) t c p) m r) (sym (ap (freeTag (componentsOf m)) (sym (lt .bytes)) ∙ e)) s))
 
     pub add-17 : n .fits ≡ false → Refused m 17 (bytesOf x) 0 r → Meets (addComponent t c) m r
     add-17 h z = go (f .missed h)
@@ -90,11 +89,11 @@ module _ (m : Record) (t : Tag) (c : Component) (r : Edited) (v : passes m ≡ t
         add-plain o z =
             let g = standing m v in
             under (skip (full (view m)) 15 empty 0 (has-room m size k)
-              (subst (λ (b : Bool). Step (cond b (check (view m) (listsFull (view m) (bytesOf (n .tag))) 16 empty 0
-                  (record { answer = made (bytesOf (n .tag)); model = withOperation (view m) (bytesOf (n .tag)) c (replicate (inputCount c) none) t }))
-                  (record { answer = made (bytesOf (n .tag)); model = withComponent (view m) (bytesOf (n .tag)) c t })) m r) (sym o)
-                (finish-made z (grown-same m g size k lu lt c unheld (m .lists) (m .«list_count») (g .few-lists) (lists-stay m g))
-                  (grown-stands m g size k lu lt c unheld (m .lists) (m .«list_count») (g .few-lists) (lists-stay m g)))))
+            (subst (λ (b : Bool). Step (cond b (check (view m) (listsFull (view m) (bytesOf (n .tag))) 16 empty 0
+            (record { answer = made (bytesOf (n .tag)); model = withOperation (view m) (bytesOf (n .tag)) c (replicate (inputCount c) none) t }))
+            (record { answer = made (bytesOf (n .tag)); model = withComponent (view m) (bytesOf (n .tag)) c t })) m r) (sym o)
+            (finish-made z (grown-same m g size k lu lt c unheld (m .lists) (m .«list_count») (g .few-lists) (lists-stay m g))
+            (grown-stands m g size k lu lt c unheld (m .lists) (m .«list_count») (g .few-lists) (lists-stay m g)))))
 
         module _ (o : isOperation c ≡ true) (lsize : length (m .lists) ≡ 128) (p : Found) (q : Sought (listsOf m) 128 (bytesOf (n .tag)) p) where
           listed : Step (check (view m) (listsFull (view m) (bytesOf (n .tag))) 16 empty 0
@@ -102,9 +101,9 @@ module _ (m : Record) (t : Tag) (c : Component) (r : Edited) (v : passes m ≡ t
           unfolding addUnder
           listed s =
               under (skip (full (view m)) 15 empty 0 (has-room m size k)
-                (subst (λ (b : Bool). Step (cond b (check (view m) (listsFull (view m) (bytesOf (n .tag))) 16 empty 0
-                    (record { answer = made (bytesOf (n .tag)); model = withOperation (view m) (bytesOf (n .tag)) c (replicate (inputCount c) none) t }))
-                    (record { answer = made (bytesOf (n .tag)); model = withComponent (view m) (bytesOf (n .tag)) c t })) m r) (sym o) s))
+              (subst (λ (b : Bool). Step (cond b (check (view m) (listsFull (view m) (bytesOf (n .tag))) 16 empty 0
+              (record { answer = made (bytesOf (n .tag)); model = withOperation (view m) (bytesOf (n .tag)) c (replicate (inputCount c) none) t }))
+              (record { answer = made (bytesOf (n .tag)); model = withComponent (view m) (bytesOf (n .tag)) c t })) m r) (sym o) s))
 
           pub add-16 : noRoom m p ≡ true → Refused m 16 [] 0 r → Meets (addComponent t c) m r
           add-16 w z = listed (stop (listsFull (view m) (bytesOf (n .tag))) 16 empty 0 _ (full-is m lsize p q ∙ w) z)
@@ -113,4 +112,4 @@ module _ (m : Record) (t : Tag) (c : Component) (r : Edited) (v : passes m ≡ t
               → Ends (made (bytesOf (n .tag))) (listPut (withMore m (n .tag) c x) row p) r → Meets (addComponent t c) m r
           add-done w row ro z =
               listed (skip (listsFull (view m) (bytesOf (n .tag))) 16 empty 0 (full-is m lsize p q ∙ w)
-                (put-done m (standing m v) size lsize k lu lt c unheld (replicate (inputCount c) none) row ro p q w z))
+              (put-done m (standing m v) size lsize k lu lt c unheld (replicate (inputCount c) none) row ro p q w z))

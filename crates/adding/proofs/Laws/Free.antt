@@ -1,10 +1,10 @@
 -- The first free tag, number by number. Assumes nothing.
 use mathlib.Core.Path.{_≡_, refl, sym, _∙_, ap, subst}
-use mathlib.Core.Logic.{_⊎_, inl, inr}
+use mathlib.Core.Logic.{inl, inr}
 use mathlib.Core.Bool.{Bool, true, false, not, _||_}
-use mathlib.Core.List.{List, [], _∷_}
+use mathlib.Core.List.{[], _∷_}
 use mathlib.Core.Option.{Option, none, some}
-use Prim.Native.Nat.{ℕ, zero, suc, _+_, _-_, _<_, _≤_}
+use Prim.Native.Nat.{ℕ, suc, _+_, _-_, _<_, _≤_}
 use native.Mathlib.Numerals.{add-one}
 use native.Mathlib.Omega.{arith}
 use lib.Dec.{T}
@@ -21,7 +21,7 @@ use Rattle.model.specs.declared.implicit_model.Model.{Model as Record}
 use Rattle.model.specs.declared.find.Found.{Found}
 use Rattle.model.specs.declared.find.Found.the-variants.{At, Nothing}
 use Rattle.model.specs.Table.{all, Table, held}
-use Rattle.model.specs.Model.{shortTag, valid}
+use Rattle.model.specs.Model.{shortTag}
 use Rattle.model.specs.Edit.{firstFree, freeTag}
 use Rattle.model.specs.View.{componentsOf, view, passes}
 use Rattle.model.specs.Search.{Sought}
@@ -82,7 +82,8 @@ module _ (m : Record) (t : Label) where
   free-once s h = record {
     free = λ _. at-once (componentsOf m) (bytesOf t) h;
     short = λ _. s;
-    missed = λ e. absurd (true→T false (sym e)) }
+    missed = λ e. absurd (true→T false (sym e));
+  }
 
   module _ (left k : ℕ) (h : Trying (componentsOf m) (bytesOf t) left k) where
     pub free-none : left ≤ 0 → FreeTag (componentsOf m) (bytesOf t) (record { fits = false; tag = t })
@@ -90,7 +91,8 @@ module _ (m : Record) (t : Label) where
     free-none l = record {
       free = λ e. absurd (true→T false e);
       short = λ e. absurd (true→T false e);
-      missed = λ _. inl (sym h ∙ (ap (λ (i : ℕ). firstFree (componentsOf m) (bytesOf t) i k) (let z : left ≡ 0 = omega arith in z) ∙ first-none (componentsOf m) (bytesOf t) k)) }
+      missed = λ _. inl (sym h ∙ (ap (λ (i : ℕ). firstFree (componentsOf m) (bytesOf t) i k) (let z : left ≡ 0 = omega arith in z) ∙ first-none (componentsOf m) (bytesOf t) k));
+    }
 
     module _ (l : 0 < left) (u : Numbered) (f : Fitted (numbered (bytesOf t) k) u) where
       more : left ≡ suc (left - 1)
@@ -107,7 +109,8 @@ module _ (m : Record) (t : Label) where
           record {
             free = λ q. absurd (true→T false (sym e ∙ q));
             short = λ q. absurd (true→T false (sym e ∙ q));
-            missed = λ _. inr (numbered (bytesOf t) k, tried (long-free m (numbered (bytesOf t) k) v o), o) }
+            missed = λ _. inr (numbered (bytesOf t) k, tried (long-free m (numbered (bytesOf t) k) v o), o);
+          }
         where
           not-off : (b : Bool) → not b ≡ false → b ≡ true
           not-off true q = refl
@@ -129,7 +132,8 @@ module _ (m : Record) (t : Label) where
           free-found n = record {
             free = λ _. tried (ap (λ (b : Tag). held b (componentsOf m)) (sym bytes) ∙ free q n) ∙ ap some (sym bytes);
             short = λ _. made-whole (numbered (bytesOf t) k) (u .tag) fitted (f .made) .labelled .short;
-            missed = λ z. absurd (true→T false (sym z ∙ e)) }
+            missed = λ z. absurd (true→T false (sym z ∙ e));
+          }
 
           pub trying-next : {i : ℕ} → s ≡ At i → Trying (componentsOf m) (bytesOf t) (left - 1) (k + 1)
           unfolding Trying

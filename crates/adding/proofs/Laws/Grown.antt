@@ -1,17 +1,15 @@
 -- The record with one component more, and with the list put. Assumes nothing.
-use mathlib.Core.Path.{_≡_, refl, sym, _∙_, ap, subst}
-use mathlib.Core.Bool.{Bool, true, false}
-use mathlib.Core.List.{List, [], _∷_}
-use mathlib.Core.Option.{Option, none, some}
+use mathlib.Core.Path.{_≡_, sym, ap}
+use mathlib.Core.Bool.{true}
+use mathlib.Core.List.{List}
+use mathlib.Core.Option.{none, some}
 use Prim.Native.Nat.{ℕ, _+_, _<_, _≤_}
 use native.Mathlib.Omega.{arith}
-use lib.Dec.{T}
-use lib.ListN.{length, getD, set}
+use lib.ListN.{length, set}
 use Rattle.tag.specs.declared.Tag.{Tag as Label}
 use Rattle.tag.specs.Tags.{Tag}
-use Rattle.tag.specs.View.{bytesOf, tagFits, Labelled}
+use Rattle.tag.specs.View.{tagFits, Labelled}
 use Rattle.component.specs.declared.model_component.Component.{Component}
-use Rattle.model.specs.declared.implicit_model.ComponentEntry.{ComponentEntry}
 use Rattle.model.specs.declared.implicit_model.InputList.{InputList}
 use Rattle.model.specs.declared.implicit_model.Model.{Model as Record}
 use Rattle.model.specs.Table.{Table, find, put}
@@ -42,7 +40,14 @@ module _ (m : Record) (g : Standing m) (size : length (m .components) ≡ 64) (k
     pub grown-stands : Standing (grown m u c e ls n)
     unfolding placeFits
     grown-stands = record {
-      few = omega arith; few-lists = few; entries = more .fits; lists = s .fits; default = true→T (tagFits e) (la .short); once = more .becomes .once; once-lists = s .becomes .once }
+      few = omega arith;
+      few-lists = few;
+      entries = more .fits;
+      lists = s .fits;
+      default = true→T (tagFits e) (la .short);
+      once = more .becomes .once;
+      once-lists = s .becomes .once;
+    }
 
     pub grown-same : Same (record { components = put t c (componentsOf m); lists = w; default = some a }) (view (grown m u c e ls n))
     unfolding view placeOf

@@ -1,19 +1,18 @@
 -- The inputs given: whether one is too long, whether they are as many as asked for, and the list made of them. Assumes nothing.
-use mathlib.Core.Path.{_≡_, refl, sym, _∙_, ap, subst}
-use mathlib.Core.Bool.{Bool, true, false, not, cond, _||_, _&&_}
+use mathlib.Core.Path.{_≡_, refl, sym, _∙_, ap}
+use mathlib.Core.Bool.{Bool, true, false, _||_, _&&_}
 use mathlib.Core.List.{List, [], _∷_, map}
-use mathlib.Core.Option.{Option, none, some}
-use Prim.Native.Nat.{ℕ, zero, suc, _+_, _-_, _<_, _≤_, min}
+use mathlib.Core.Option.{none, some}
+use Prim.Native.Nat.{ℕ, zero, suc, _-_, _<_, _≤_, min}
 use native.Mathlib.Omega.{arith}
 use lib.Dec.{T, leb, ltb, eqb}
 use lib.ListN.{length, take, replicate, length-map, length-take, length-replicate}
-use borrow.Author.Tests.{lt-ltb, le-ltb, le-leb, eq-eqb, ltb-false, eqb-true}
+use borrow.Author.Tests.{lt-ltb, le-ltb, le-leb, eq-eqb, eqb-true}
 use Rattle.tag.specs.declared.Tag.{Tag as Label}
 use Rattle.tag.specs.Tags.{Tag, empty, overlong}
-use Rattle.tag.specs.View.{bytesOf, tagFits, Labelled, Made}
+use Rattle.tag.specs.View.{tagFits, Made}
 use Rattle.component.specs.Value.{inputCount}
 use Rattle.component.specs.declared.model_component.Component.{Component}
-use Rattle.model.specs.declared.implicit_model.InputList.{InputList}
 use Rattle.model.specs.declared.implicit_model.Place.{Place as PlaceRecord}
 use Rattle.model.specs.Table.{any}
 use Rattle.model.specs.Model.{Place}
@@ -115,7 +114,8 @@ unfolding inputsOf tagsGiven
 asked-short false n k a b d e f h g = absurd (true→T false g)
 asked-short true n k a b d e f h g = record {
   few = h;
-  short = ap (any overlong) (sym (looked k h) ∙ ap (λ (i : ℕ). take 3 (tagsGiven i a b d)) (sym (eqb-true n k f))) ∙ e }
+  short = ap (any overlong) (sym (looked k h) ∙ ap (λ (i : ℕ). take 3 (tagsGiven i a b d)) (sym (eqb-true n k f))) ∙ e;
+}
   where
     looked : (k : ℕ) → k ≤ 3 → take 3 (tagsGiven k a b d) ≡ take k (a ∷ b ∷ d ∷ [])
     looked zero h = refl
@@ -172,7 +172,7 @@ module _ (a : Tag) (x : Label) (mx : Made (take 32 a) x) (e : overlong a ≡ fal
 module _ (a b d : Tag) (x y z : Label) (mx : Made (take 32 a) x) (my : Made (take 32 b) y) (mz : Made (take 32 d) z) where
   named : (k : ℕ) → k ≤ 3 → any overlong (take k (a ∷ b ∷ d ∷ [])) ≡ false
       → (rows placeOf k (record { assigned = true; tag = x } ∷ record { assigned = true; tag = y } ∷ record { assigned = true; tag = z } ∷ []) ≡ map some (take k (a ∷ b ∷ d ∷ [])))
-        × T (every (rows placeFits k (record { assigned = true; tag = x } ∷ record { assigned = true; tag = y } ∷ record { assigned = true; tag = z } ∷ [])))
+      × T (every (rows placeFits k (record { assigned = true; tag = x } ∷ record { assigned = true; tag = y } ∷ record { assigned = true; tag = z } ∷ [])))
   unfolding rows
   named zero h e = (refl, tt)
   named (suc zero) h e =
@@ -180,24 +180,26 @@ module _ (a b d : Tag) (x y z : Label) (mx : Made (take 32 a) x) (my : Made (tak
       (ap (λ (o : Place). o ∷ []) (names a x mx p), and-T (placeFits (record { assigned = true; tag = x })) true (names-fit a x mx p) tt)
   named (suc (suc zero)) h e =
       let p = or-left (overlong a) (overlong b || false) e in
-      let q = or-left (overlong b) false (or-right (overlong a) (overlong b || false) e) in
-      (rw (names a x mx p, names b y my q),
+      let q = or-left (overlong b) false (or-right (overlong a) (overlong b || false) e) in (
+        rw (names a x mx p, names b y my q),
         and-T (placeFits (record { assigned = true; tag = x })) (placeFits (record { assigned = true; tag = y }) && true) (names-fit a x mx p)
-          (and-T (placeFits (record { assigned = true; tag = y })) true (names-fit b y my q) tt))
+            (and-T (placeFits (record { assigned = true; tag = y })) true (names-fit b y my q) tt),
+      )
   named (suc (suc (suc zero))) h e =
       let p = or-left (overlong a) (overlong b || (overlong d || false)) e in
       let f = or-right (overlong a) (overlong b || (overlong d || false)) e in
       let q = or-left (overlong b) (overlong d || false) f in
-      let s = or-left (overlong d) false (or-right (overlong b) (overlong d || false) f) in
-      (rw (names a x mx p, names b y my q, names d z mz s),
+      let s = or-left (overlong d) false (or-right (overlong b) (overlong d || false) f) in (
+        rw (names a x mx p, names b y my q, names d z mz s),
         and-T (placeFits (record { assigned = true; tag = x })) (placeFits (record { assigned = true; tag = y }) && (placeFits (record { assigned = true; tag = z }) && true)) (names-fit a x mx p)
-          (and-T (placeFits (record { assigned = true; tag = y })) (placeFits (record { assigned = true; tag = z }) && true) (names-fit b y my q)
-            (and-T (placeFits (record { assigned = true; tag = z })) true (names-fit d z mz s) tt)))
+            (and-T (placeFits (record { assigned = true; tag = y })) (placeFits (record { assigned = true; tag = z }) && true) (names-fit b y my q)
+            (and-T (placeFits (record { assigned = true; tag = z })) true (names-fit d z mz s) tt)),
+      )
   named (suc (suc (suc (suc k)))) h e = absurd (let y : ⊥ = omega arith in y)
 
   pub given-row : (t : Label) (k : ℕ) → Short k a b d
       → RowOf t (map some (take k (a ∷ b ∷ d ∷ [])))
-        (record { tag = t; count = k; places = record { assigned = true; tag = x } ∷ record { assigned = true; tag = y } ∷ record { assigned = true; tag = z } ∷ [] })
+      (record { tag = t; count = k; places = record { assigned = true; tag = x } ∷ record { assigned = true; tag = y } ∷ record { assigned = true; tag = z } ∷ [] })
   given-row t k s =
       let n = named k (s .few) (s .short) in
       record { tag = refl; places = n .0; fits = row-fits t k _ (s .few) (n .1) }

@@ -1,12 +1,12 @@
 -- The list put, and each way out of `add_operation`. Assumes nothing.
 use mathlib.Core.Path.{_≡_, refl, sym, _∙_, ap, subst}
 use mathlib.Core.Bool.{Bool, true, false, not, _||_, _&&_}
-use mathlib.Core.List.{List, [], _∷_}
-use mathlib.Core.Option.{Option, none, some}
+use mathlib.Core.List.{List, []}
+use mathlib.Core.Option.{none}
 use Prim.Native.Nat.{ℕ, _+_, _<_, _≤_}
 use native.Mathlib.Omega.{arith}
 use native.Mathlib.Decide.{decLe}
-use lib.Dec.{T, leb, eqb, leb→le}
+use lib.Dec.{leb, eqb, leb→le}
 use lib.ListN.{length, take}
 use borrow.Author.Tests.{le-leb, lt-leb, leb-false}
 use Rattle.tag.specs.declared.Tag.{Tag as Label}
@@ -20,10 +20,10 @@ use Rattle.model.specs.declared.implicit_model.InputList.{InputList}
 use Rattle.model.specs.declared.implicit_model.Model.{Model as Record}
 use Rattle.model.specs.declared.find.Found.{Found}
 use Rattle.model.specs.declared.find.Found.the-variants.{At, Nothing}
-use Rattle.model.specs.Table.{any, find, held, put}
+use Rattle.model.specs.Table.{any, find, held}
 use Rattle.model.specs.Model.{Place}
 use Rattle.model.specs.Edit.{addOperation, made, Outcome, check, edit, addOp, full, listsFull, lookedAt, newPlaces, withOperation}
-use Rattle.model.specs.View.{placeOf, rows, listOf, listFits, componentsOf, listsOf, view, passes}
+use Rattle.model.specs.View.{listOf, listFits, componentsOf, listsOf, view, passes}
 use Rattle.model.specs.Search.{Sought}
 use Rattle.model.proofs.Laws.Rows.{no-list, rows-length}
 use Rattle.model.proofs.Laws.Standing.{Standing, standing}
@@ -31,7 +31,7 @@ use Rattle.edit.specs.declared.Edited.{Edited}
 use Rattle.edit.specs.Meets.{Meets}
 use Rattle.edit.specs.Ends.{Ends, Refused}
 use Rattle.edit.proofs.Laws.Step.{Step, skip, stop, finish-made, meets-on}
-use Rattle.edit.proofs.Laws.Stored.{Stored, over-row, more-row}
+use Rattle.edit.proofs.Laws.Stored.{over-row, more-row}
 use Rattle.edit.proofs.Laws.Tests.{long, short, labelled, carrying, taken, free, missing, sought-by, found-row, is-full, has-room}
 use Rattle.adding.specs.Grown.{withMore, noRoom, listPut}
 use Rattle.adding.specs.Inputs.{inputsOf, fitting, asked, RowOf}
@@ -75,7 +75,7 @@ module _ (m : Record) (g : Standing m) (size : length (m .components) ≡ 64) (l
   unfolding view
   put-done (At i) q h z =
       let s = over-row listOf listFits (m .lists) (m .«list_count») t ps row row-is (ro .fits (lt .short)) (g .once-lists) (g .lists) i no-list
-          (found-row listOf (m .lists) (m .«list_count») no-list q refl) in
+      (found-row listOf (m .lists) (m .«list_count») no-list q refl) in
       finish-made z (grown-same m g size k lt la c x _ (m .«list_count») (g .few-lists) s) (grown-stands m g size k lt la c x _ (m .«list_count») (g .few-lists) s)
   put-done Nothing q h z =
       let l : m .«list_count» < 128 = room-more m Nothing h refl in
@@ -115,15 +115,15 @@ module _ (m : Record) (t : Tag) (c : Component) (given : Bool) (n : ℕ) (a b d 
         unfolding addOp view
         op-11 e z =
             on (skip (overlong t || any overlong (lookedAt (inputsOf given n a b d))) 1 empty 0 (either false (sym sh)) (skip (not (isOperation c)) 4 t 0 (ap not ok)
-              (stop (held t (componentsOf m)) 11 t 0 _ (taken (sought-by lt p) e) (carrying lt z))))
+            (stop (held t (componentsOf m)) 11 t 0 _ (taken (sought-by lt p) e) (carrying lt z))))
 
         module _ (e : f ≡ Nothing) where
           pub op-2 : fitting given n (inputCount c) ≡ false → Refused m 2 (bytesOf u) 0 r → Meets (addOperation t c (inputsOf given n a b d)) m r
           unfolding addOp view
           op-2 h z =
               on (skip (overlong t || any overlong (lookedAt (inputsOf given n a b d))) 1 empty 0 (either false (sym sh)) (skip (not (isOperation c)) 4 t 0 (ap not ok)
-                (skip (held t (componentsOf m)) 11 t 0 (free (sought-by lt p) e)
-                (stop (not (eqb (length (newPlaces c (inputsOf given n a b d))) (inputCount c))) 2 t 0 _ (ap not (count-is given n c a b d ∙ h)) (carrying lt z)))))
+              (skip (held t (componentsOf m)) 11 t 0 (free (sought-by lt p) e)
+              (stop (not (eqb (length (newPlaces c (inputsOf given n a b d))) (inputCount c))) 2 t 0 _ (ap not (count-is given n c a b d ∙ h)) (carrying lt z)))))
 
           module _ (fit : fitting given n (inputCount c) ≡ true) (size : length (m .components) ≡ 64) where
             fourth : {o : Outcome} → Step o m r
@@ -134,23 +134,23 @@ module _ (m : Record) (t : Tag) (c : Component) (given : Bool) (n : ℕ) (a b d 
             unfolding addOp view
             op-15 h z =
                 on (skip (overlong t || any overlong (lookedAt (inputsOf given n a b d))) 1 empty 0 (either false (sym sh)) (skip (not (isOperation c)) 4 t 0 (ap not ok)
-                  (skip (held t (componentsOf m)) 11 t 0 (free (sought-by lt p) e) (fourth (stop (full (view m)) 15 empty 0 _ (is-full m size h) z)))))
+                (skip (held t (componentsOf m)) 11 t 0 (free (sought-by lt p) e) (fourth (stop (full (view m)) 15 empty 0 _ (is-full m size h) z)))))
 
             module _ (k : m .«component_count» < 64) (lsize : length (m .lists) ≡ 128) (g : Found) (q : Sought (listsOf m) 128 (bytesOf u) g) where
               pub op-16 : noRoom m g ≡ true → Refused m 16 [] 0 r → Meets (addOperation t c (inputsOf given n a b d)) m r
               unfolding addOp view
               op-16 h z =
                   on (skip (overlong t || any overlong (lookedAt (inputsOf given n a b d))) 1 empty 0 (either false (sym sh)) (skip (not (isOperation c)) 4 t 0 (ap not ok)
-                    (skip (held t (componentsOf m)) 11 t 0 (free (sought-by lt p) e) (fourth (skip (full (view m)) 15 empty 0 (has-room m size k)
-                    (stop (listsFull (view m) t) 16 empty 0 _ (full-is m lsize g (sought-by lt q) ∙ h) z))))))
+                  (skip (held t (componentsOf m)) 11 t 0 (free (sought-by lt p) e) (fourth (skip (full (view m)) 15 empty 0 (has-room m size k)
+                  (stop (listsFull (view m) t) 16 empty 0 _ (full-is m lsize g (sought-by lt q) ∙ h) z))))))
 
               pub op-done : noRoom m g ≡ false → (row : InputList) → RowOf u (asked given (inputCount c) a b d) row → Ends (made (bytesOf u)) (listPut (withMore m u c u) row g) r
                   → Meets (addOperation t c (inputsOf given n a b d)) m r
               unfolding addOp view
               op-done h row ro z =
                   on (skip (overlong t || any overlong (lookedAt (inputsOf given n a b d))) 1 empty 0 (either false (sym sh)) (skip (not (isOperation c)) 4 t 0 (ap not ok)
-                    (skip (held t (componentsOf m)) 11 t 0 (free (sought-by lt p) e) (fourth (skip (full (view m)) 15 empty 0 (has-room m size k)
-                    (skip (listsFull (view m) t) 16 empty 0 (full-is m lsize g (sought-by lt q) ∙ h)
-                    (put-done m (standing m v) size lsize k lt lt c (missing (sought-by lt p) e) (newPlaces c (inputsOf given n a b d)) row
-                      (subst (λ (ps : List Place). RowOf u ps row) (asked-are given n c a b d (few-inputs c) fit) ro) g (sought-by lt q) h
-                      (subst (λ (x : Tag). Ends (made x) (listPut (withMore m u c u) row g) r) (lt .bytes) z))))))))
+                  (skip (held t (componentsOf m)) 11 t 0 (free (sought-by lt p) e) (fourth (skip (full (view m)) 15 empty 0 (has-room m size k)
+                  (skip (listsFull (view m) t) 16 empty 0 (full-is m lsize g (sought-by lt q) ∙ h)
+                  (put-done m (standing m v) size lsize k lt lt c (missing (sought-by lt p) e) (newPlaces c (inputsOf given n a b d)) row
+                  (subst (λ (ps : List Place). RowOf u ps row) (asked-are given n c a b d (few-inputs c) fit) ro) g (sought-by lt q) h
+                  (subst (λ (x : Tag). Ends (made x) (listPut (withMore m u c u) row g) r) (lt .bytes) z))))))))

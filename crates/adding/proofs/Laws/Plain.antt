@@ -1,5 +1,5 @@
 -- Each way out of adding a component without inputs. Assumes nothing.
-use mathlib.Core.Path.{_≡_, refl, sym, _∙_, ap, subst}
+use mathlib.Core.Path.{_≡_, refl, sym, ap, subst}
 use mathlib.Core.Bool.{Bool, true, false, not}
 use mathlib.Core.List.{[]}
 use Prim.Native.Nat.{ℕ, _<_, _≤_}
@@ -16,12 +16,11 @@ use Rattle.model.specs.declared.find.Found.{Found}
 use Rattle.model.specs.declared.find.Found.the-variants.{At, Nothing}
 use Rattle.model.specs.Table.{held}
 use Rattle.model.specs.Model.{Model}
-use Rattle.model.specs.Edit.{Edit, addConstant, addFunction, made, Outcome, edit, addPlain, full, withComponent}
+use Rattle.model.specs.Edit.{addConstant, addFunction, made, Outcome, edit, addPlain, full}
 use Rattle.model.specs.View.{componentsOf, view, passes}
 use Rattle.model.specs.Search.{Sought}
 use Rattle.model.proofs.Laws.Standing.{standing}
 use Rattle.edit.specs.declared.Edited.{Edited}
-use Rattle.edit.specs.Meets.{Meets}
 use Rattle.edit.specs.Ends.{Ends, Refused}
 use Rattle.edit.proofs.Laws.Step.{Step, skip, stop, finish-made, meets-on, meets-7}
 use Rattle.edit.proofs.Laws.Tests.{long, short, labelled, carrying, taken, free, missing, sought-by, is-full, has-room}
@@ -59,7 +58,7 @@ module _ (m : Record) (t : Tag) (c : Component) (ok : Bool) (r : Edited) where
           unfolding addPlain view
           plain-15 k z =
               on (skip (overlong t) 1 empty 0 (short t st) (skip (not ok) 4 t 0 (ap not fits) (skip (held t (componentsOf m)) 11 t 0 (free (sought-by lt p) n)
-                (stop (full (view m)) 15 empty 0 _ (is-full m size k) z))))
+              (stop (full (view m)) 15 empty 0 _ (is-full m size k) z))))
 
           pub plain-done : m .«component_count» < 64 → Ends (made (bytesOf u)) (withMore m u c u) r → Plainly t c ok m r
           unfolding addPlain view
@@ -67,10 +66,10 @@ module _ (m : Record) (t : Tag) (c : Component) (ok : Bool) (r : Edited) where
               let g = standing m v in
               let x = missing (sought-by lt p) n in
               on (skip (overlong t) 1 empty 0 (short t st) (skip (not ok) 4 t 0 (ap not fits) (skip (held t (componentsOf m)) 11 t 0 (free (sought-by lt p) n)
-                (skip (full (view m)) 15 empty 0 (has-room m size k)
-                (finish-made (subst (λ (b : Tag). Ends (made b) (withMore m u c u) r) (lt .bytes) z)
-                  (grown-same m g size k lt lt c x (m .lists) (m .«list_count») (g .few-lists) (lists-stay m g))
-                  (grown-stands m g size k lt lt c x (m .lists) (m .«list_count») (g .few-lists) (lists-stay m g)))))))
+              (skip (full (view m)) 15 empty 0 (has-room m size k)
+              (finish-made (subst (λ (b : Tag). Ends (made b) (withMore m u c u) r) (lt .bytes) z)
+              (grown-same m g size k lt lt c x (m .lists) (m .«list_count») (g .few-lists) (lists-stay m g))
+              (grown-stands m g size k lt lt c x (m .lists) (m .«list_count») (g .few-lists) (lists-stay m g)))))))
 
 -- the two edits that are defined so
 pub constant-is : (t : Tag) (x : Float) (m : Model) → edit (addConstant t x) m ≡ addPlain m t (Constant x) true

@@ -1,12 +1,8 @@
-use native.Mathlib.Omega.{arith}
+-- `adding::add_constant` meets its contract. Assumes nothing.
 use borrow.Author.Needs.{needs}
-use mathlib.Core.Path.{_≡_, refl, sym, ap, _∙_, subst}
 use Rattle.adding.proofs.Laws.Plain.{constant-is}
 use Rattle.adding.proofs.add_constant.Statement.{statement}
 use Rattle.adding.proofs.add_constant.Tie as tie
-use Rattle.adding.proofs.add_constant.Reads as reads
-use Rattle.adding.proofs.add_constant.Lts as lts
-use Rattle.adding.proofs.add_plain.Reads as add-plain-reads
 
 add-plain-requires : tie.Need-add-plain-requires
 add-plain-requires c κs = search needs

@@ -1,6 +1,7 @@
+-- `adding::add_operation` meets its contract. Assumes nothing.
 use native.Mathlib.Omega.{arith}
 use borrow.Author.Needs.{needs}
-use mathlib.Core.Path.{_≡_, refl, sym, ap, _∙_, subst}
+use mathlib.Core.Path.{_≡_, sym, ap, _∙_, subst}
 use lib.ListN.{length, length-map}
 use borrow.Author.Tests.{not-true, not-false}
 use Rattle.tag.specs.View.{bytesOf}
@@ -15,23 +16,6 @@ use Rattle.adding.proofs.Laws.Operation.{few-inputs, room-after, op-1, 
 use Prim.Native.Nat.{ℕ}
 use Rattle.adding.proofs.add_operation.Statement.{statement}
 use Rattle.adding.proofs.add_operation.Tie as tie
-use Rattle.adding.proofs.add_operation.Reads as reads
-use Rattle.adding.proofs.add_operation.Lts as lts
-use Rattle.adding.proofs.inputs_fit.Reads as inputs-fit-reads
-use Rattle.adding.proofs.no_room.Reads as no-room-reads
-use Rattle.adding.proofs.operation_row.Reads as operation-row-reads
-use Rattle.adding.proofs.put_list.Reads as put-list-reads
-use Rattle.adding.proofs.too_long.Reads as too-long-reads
-use Rattle.adding.proofs.with_more.Reads as with-more-reads
-use Rattle.component.proofs.kind.is_operation.Reads as is-operation-reads
-use Rattle.component.proofs.model_component.input_count.Reads as input-count-reads
-use Rattle.edit.proofs.made.Reads as made-reads
-use Rattle.edit.proofs.refuse.Reads as refuse-reads
-use Rattle.edit.proofs.refuse_plain.Reads as refuse-plain-reads
-use Rattle.model.proofs.find.find_component.Reads as find-component-reads
-use Rattle.model.proofs.find.find_list.Reads as find-list-reads
-use Rattle.model.proofs.validity.is_valid.Reads as is-valid-reads
-use Rattle.tag.proofs.tag_of.Reads as tag-of-reads
 
 size : (s : tie.Start) → length (s .args .m .components) ≡ 64
 size s = simp length-map at (s .good .0 .1 .1 .0 .1 .0 .1)

@@ -1,6 +1,6 @@
-use native.Mathlib.Omega.{arith}
+-- `adding::add_plain` meets its contract. Assumes nothing.
 use borrow.Author.Needs.{needs}
-use mathlib.Core.Path.{_≡_, refl, sym, ap, _∙_, subst}
+use mathlib.Core.Path.{_≡_, sym, _∙_, subst}
 use lib.ListN.{length, length-map}
 use borrow.Author.Tests.{not-true, not-false}
 use Rattle.tag.specs.View.{bytesOf}
@@ -10,15 +10,6 @@ use Rattle.edit.specs.Ends.{Ends}
 use Rattle.adding.proofs.Laws.Plain.{plain-7, plain-1, plain-4, plain-11, plain-15, plain-done}
 use Rattle.adding.proofs.add_plain.Statement.{statement}
 use Rattle.adding.proofs.add_plain.Tie as tie
-use Rattle.adding.proofs.add_plain.Reads as reads
-use Rattle.adding.proofs.add_plain.Lts as lts
-use Rattle.adding.proofs.with_more.Reads as with-more-reads
-use Rattle.edit.proofs.made.Reads as made-reads
-use Rattle.edit.proofs.refuse.Reads as refuse-reads
-use Rattle.edit.proofs.refuse_plain.Reads as refuse-plain-reads
-use Rattle.model.proofs.find.find_component.Reads as find-component-reads
-use Rattle.model.proofs.validity.is_valid.Reads as is-valid-reads
-use Rattle.tag.proofs.tag_of.Reads as tag-of-reads
 
 size : (s : tie.Start) → length (s .args .m .components) ≡ 64
 size s = simp length-map at (s .good .0 .1 .1 .0 .1 .0 .1)

@@ -1,6 +1,6 @@
+-- `adding::free_tag` meets its contract. Assumes nothing.
 use native.Mathlib.Omega.{arith}
 use borrow.Author.Needs.{needs}
-use mathlib.Core.Path.{_≡_, refl, sym, ap, _∙_, subst}
 use Prim.Native.Nat.{_+_, _≤_}
 use borrow.Author.Tests.{not-true, not-false}
 use Rattle.tag.specs.View.{bytesOf}
@@ -9,11 +9,6 @@ use Rattle.edit.proofs.Laws.Tests.{taken, free}
 use Rattle.adding.proofs.Laws.Free.{Trying, trying-start, trying-next, free-once, free-long, free-found, free-none}
 use Rattle.adding.proofs.free_tag.Statement.{statement}
 use Rattle.adding.proofs.free_tag.Tie as tie
-use Rattle.adding.proofs.free_tag.Reads as reads
-use Rattle.adding.proofs.free_tag.Lts as lts
-use Rattle.model.proofs.find.components_held.Reads as components-held-reads
-use Rattle.model.proofs.find.find_component.Reads as find-component-reads
-use Rattle.tag.proofs.numbered.numbered_tag.Reads as numbered-tag-reads
 
 abbrev Inv-loop : tie.InvT-loop
 Inv-loop m t left₀ k₀ left k = Trying (componentsOf m) (bytesOf t) left k × (k + left ≤ 66)

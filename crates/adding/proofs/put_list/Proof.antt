@@ -1,12 +1,9 @@
+-- `adding::put_list` meets its contract. Assumes nothing.
 use native.Mathlib.Omega.{arith}
 use borrow.Author.Needs.{needs}
-use mathlib.Core.Path.{_≡_, refl, sym, ap, _∙_, subst}
 use Rattle.adding.proofs.Laws.Operation.{room-more}
 use Rattle.adding.proofs.put_list.Statement.{statement}
 use Rattle.adding.proofs.put_list.Tie as tie
-use Rattle.adding.proofs.put_list.Reads as reads
-use Rattle.adding.proofs.put_list.Lts as lts
-use Rattle.edit.proofs.rows.with_list.Reads as with-list-reads
 
 enum-known-f : tie.Need-enum-known-f
 enum-known-f c = search needs

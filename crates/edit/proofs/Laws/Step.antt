@@ -9,7 +9,7 @@ use lib.Dec.{T}
 use Rattle.tag.specs.Tags.{Tag, empty}
 use Rattle.model.specs.declared.implicit_model.Model.{Model as Record}
 use Rattle.model.specs.Model.{Model, Same, valid}
-use Rattle.model.specs.Edit.{Edit, Answer, done, made, refused, Outcome, refuse, check, edit, apply}
+use Rattle.model.specs.Edit.{Edit, done, made, refused, Outcome, refuse, check, edit, apply}
 use Rattle.model.specs.Answer.{answerOf}
 use Rattle.model.specs.View.{view, passes}
 use Rattle.model.proofs.Laws.Bool.{T→true}
@@ -36,7 +36,8 @@ module _ {m : Record} {r : Edited} where
     answer = h .answer;
     model = subst (λ (x : Record). Same (view m) (view x)) (sym (h .model)) (same-refl (view m));
     stands = inl (h .model);
-    kept = λ e. h .model }
+    kept = λ e. h .model;
+  }
 
   -- a check that does not refuse is passed
   pub skip : {o : Outcome} (b : Bool) (n : ℕ) (t : Tag) (i : ℕ) → b ≡ false → Step o m r → Step (check (view m) b n t i o) m r
@@ -54,14 +55,16 @@ module _ {m : Record} {r : Edited} where
     answer = a .answer;
     model = subst (λ (x : Record). Same w (view x)) (sym (a .model)) s;
     stands = inr (subst Standing (sym (a .model)) g);
-    kept = λ e. absurd (let z : _≡_ {A = ℕ} 0 1 = cc (a .answer, e) in let y : ⊥ = omega arith in y) }
+    kept = λ e. absurd (let z : _≡_ {A = ℕ} 0 1 = cc (a .answer, e) in let y : ⊥ = omega arith in y);
+  }
 
   pub finish-done : {w : Model} {n : Record} → Ends done n r → Same w (view n) → Standing n → Step (record { answer = done; model = w }) m r
   finish-done {w} {n = n} a s g = record {
     answer = a .answer;
     model = subst (λ (x : Record). Same w (view x)) (sym (a .model)) s;
     stands = inr (subst Standing (sym (a .model)) g);
-    kept = λ e. absurd (let z : _≡_ {A = ℕ} 0 1 = cc (a .answer, e) in let y : ⊥ = omega arith in y) }
+    kept = λ e. absurd (let z : _≡_ {A = ℕ} 0 1 = cc (a .answer, e) in let y : ⊥ = omega arith in y);
+  }
 
 -- ---- 7
 
@@ -83,7 +86,7 @@ meets e m r s = record { answer = s .answer; model = s .model; passing = go (pas
     go b p (inl q) = ap passes q
     go true p (inr g) =
         stands-passes (defined e m .model) (r .model)
-          (subst (λ (x : Outcome). T (valid (x .model))) (sym (defined-apply e m p)) (apply-valid e (view m) (passes-valid m p))) (s .model) g ∙ sym p
+        (subst (λ (x : Outcome). T (valid (x .model))) (sym (defined-apply e m p)) (apply-valid e (view m) (passes-valid m p))) (s .model) g ∙ sym p
     go false p (inr g) = ap passes (s .kept (s .answer ∙ ap (λ (x : Outcome). x .answer) (defined-refused e m p)))
 
 module _ {e : Edit} {m : Record} {r : Edited} where

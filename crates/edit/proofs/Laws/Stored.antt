@@ -1,9 +1,9 @@
 -- One row of a table overwritten, or one more: the table then holds what is put there, and its rows fit. Assumes nothing.
 use mathlib.Core.Path.{_≡_, refl, sym, _∙_, ap, subst}
-use mathlib.Core.Bool.{Bool, true}
+use mathlib.Core.Bool.{Bool}
 use mathlib.Core.List.{List, [], _∷_, _++_}
 use mathlib.Core.Option.{none}
-use Prim.Native.Nat.{ℕ, zero, suc, _+_, _<_, _≤_}
+use Prim.Native.Nat.{ℕ, zero, suc, _+_, _<_}
 use native.Mathlib.Nat.{not-suc-le-zero, le-of-suc-le-suc}
 use native.Mathlib.Omega.{arith}
 use lib.Dec.{T}
@@ -33,22 +33,31 @@ module _ {A B : Type 0} (g : A → Tag × B) (ok : A → Bool) (table : List A) 
   pub over-row : (i : ℕ) (d : A) → RowAt g table n i t d → Stored g ok (put t b (rows g n table)) n (set table i x)
   over-row i d at = record {
     becomes = subst (λ (r : Table B). Becomes (put t b (rows g n table)) r)
-      (ap (set (rows g n table) i) (sym e) ∙ sym (rows-set g table n i x (at .below)))
-      (overwritten (g d) (rows g n table) i t b once (at .within) (ap (λ (y : Tag × B). y .0) (rows-at g table n i d (at .within)) ∙ at .tag));
-    fits = subst (λ (bs : List Bool). T (every bs)) (sym (rows-set ok table n i x (at .below))) (every-set (rows ok n table) i (ok x) all o) }
+        (ap (set (rows g n table) i) (sym e) ∙ sym (rows-set g table n i x (at .below)))
+        (overwritten (g d) (rows g n table) i t b once (at .within) (ap (λ (y : Tag × B). y .0) (rows-at g table n i d (at .within)) ∙ at .tag));
+    fits = subst (λ (bs : List Bool). T (every bs)) (sym (rows-set ok table n i x (at .below))) (every-set (rows ok n table) i (ok x) all o);
+  }
 
   pub more-row : find t (rows g n table) ≡ none → n < length table → Stored g ok (put t b (rows g n table)) (n + 1) (set table n x)
   more-row free k = record {
     becomes = subst (λ (r : Table B). Becomes (put t b (rows g n table)) r)
-      (ap (λ (y : Tag × B). rows g n table ++ (y ∷ [])) (sym e) ∙ sym (rows-more g table n x k)) (appended t b (rows g n table) free once);
-    fits = subst (λ (bs : List Bool). T (every bs)) (sym (rows-more ok table n x k)) (every-more (rows ok n table) (ok x) all o) }
+        (ap (λ (y : Tag × B). rows g n table ++ (y ∷ [])) (sym e) ∙ sym (rows-more g table n x k)) (appended t b (rows g n table) free once);
+    fits = subst (λ (bs : List Bool). T (every bs)) (sym (rows-more ok table n x k)) (every-more (rows ok n table) (ok x) all o);
+  }
 
 -- ---- a record with one list replaced, or one component
 
 module _ (m : Record) (g : Standing m) (i : ℕ) where
   pub list-stands : {w : Table (List Place)} (l : InputList) → Stored listOf listFits w (m .«list_count») (set (m .lists) i l) → Standing (withList m i l)
   list-stands l s = record {
-    few = g .few; few-lists = g .few-lists; entries = g .entries; lists = s .fits; default = g .default; once = g .once; once-lists = s .becomes .once }
+    few = g .few;
+    few-lists = g .few-lists;
+    entries = g .entries;
+    lists = s .fits;
+    default = g .default;
+    once = g .once;
+    once-lists = s .becomes .once;
+  }
 
   pub list-same : {w : Table (List Place)} (l : InputList) → Stored listOf listFits w (m .«list_count») (set (m .lists) i l)
       → Same (record { components = view m .components; lists = w; default = view m .default }) (view (withList m i l))
@@ -57,7 +66,14 @@ module _ (m : Record) (g : Standing m) (i : ℕ) where
 
   pub entry-stands : {w : Table Component} (e : ComponentEntry) → Stored componentOf entryFits w (m .«component_count») (set (m .components) i e) → Standing (withEntry m i e)
   entry-stands e s = record {
-    few = g .few; few-lists = g .few-lists; entries = s .fits; lists = g .lists; default = g .default; once = s .becomes .once; once-lists = g .once-lists }
+    few = g .few;
+    few-lists = g .few-lists;
+    entries = s .fits;
+    lists = g .lists;
+    default = g .default;
+    once = s .becomes .once;
+    once-lists = g .once-lists;
+  }
 
   pub entry-same : {w : Table Component} (e : ComponentEntry) → Stored componentOf entryFits w (m .«component_count») (set (m .components) i e)
       → Same (record { components = w; lists = view m .lists; default = view m .default }) (view (withEntry m i e))

@@ -1,11 +1,11 @@
 -- The code's tests are the definition's. Assumes nothing.
-use mathlib.Core.Path.{_≡_, sym, _∙_, ap, subst}
+use mathlib.Core.Path.{_≡_, sym, _∙_, subst}
 use mathlib.Core.Bool.{true, false}
 use mathlib.Core.List.{List}
-use mathlib.Core.Option.{none, some}
+use mathlib.Core.Option.{none}
 use Prim.Native.Nat.{ℕ, _<_, _≤_}
 use native.Mathlib.Omega.{arith}
-use lib.ListN.{length, take, getD}
+use lib.ListN.{length, take}
 use borrow.Author.Tests.{lt-ltb, le-leb, lt-leb}
 use Rattle.tag.specs.declared.Tag.{Tag as Label}
 use Rattle.tag.specs.Tags.{Tag, overlong}
@@ -17,7 +17,7 @@ use Rattle.model.specs.declared.find.Found.the-variants.{At, Nothing}
 use Rattle.model.specs.Table.{Table, find, held}
 use Rattle.model.specs.Edit.{full}
 use Rattle.model.specs.View.{rows, componentOf, componentsOf, view}
-use Rattle.model.specs.Search.{position, Sought}
+use Rattle.model.specs.Search.{Sought}
 use Rattle.model.proofs.Laws.Table.{held-false}
 use Rattle.model.proofs.Laws.Rows.{rows-length}
 use Rattle.model.proofs.Laws.Search.{position-held, position-free, row-at, RowAt}

@@ -16,7 +16,8 @@ refuse-requires c κs = search needs
 returns : tie.Need-returns
 returns c = record {
   model = c .refuse .ensures .model;
-  answer = c .refuse .ensures .answer ∙ ap (λ (t : Tag). refused (numberOf (c .before .before .args .e)) t 0) (c .before .empty-tag .ensures .labelled .bytes) }
+  answer = c .refuse .ensures .answer ∙ ap (λ (t : Tag). refused (numberOf (c .before .before .args .e)) t 0) (c .before .empty-tag .ensures .labelled .bytes);
+}
 
 pub refuse-plain-spec : {M : Type 1} → statement M
 refuse-plain-spec = tie.close (tie.spec empty-tag-requires refuse-requires returns)

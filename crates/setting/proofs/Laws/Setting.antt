@@ -1,11 +1,10 @@
 -- Each way out of `set_parameter`. Assumes nothing.
-use mathlib.Core.Path.{_≡_, refl, sym, _∙_, ap, subst}
-use mathlib.Core.Bool.{Bool, true, false}
-use mathlib.Core.List.{List, [], _∷_}
+use mathlib.Core.Path.{_≡_, sym, _∙_, ap, subst}
+use mathlib.Core.Bool.{true}
+use mathlib.Core.List.{[]}
 use mathlib.Core.Option.{Option, none, some}
 use Prim.Native.Nat.{ℕ, _<_, _≤_}
-use lib.Dec.{T}
-use lib.ListN.{length, getD, set, take}
+use lib.ListN.{length, getD, take}
 use Rattle.tag.specs.declared.Tag.{Tag as Label}
 use Rattle.tag.specs.Tags.{Tag, empty, overlong}
 use Rattle.tag.specs.View.{bytesOf, tagFits, Labelled, Made}
@@ -75,5 +74,5 @@ module _ (m : Record) (t : Tag) (n : Name) (x : Data) (r : Edited) (v : passes m
             let g = standing m v in
             let row : ComponentEntry = record { tag = u; component = c } in
             let s = over-row componentOf entryFits (m .components) (m .«component_count») t c row (ap (λ (b : Tag). (b, c)) (lt .bytes)) (true→T (tagFits u) (lt .short))
-                (g .once) (g .entries) i d at in
+            (g .once) (g .entries) i d at in
             settled (Changed c) (sym y ∙ p) (finish-done z (entry-same m g i row s) (entry-stands m g i row s))

@@ -1,6 +1,7 @@
+-- `setting::set_parameter` meets its contract. Assumes nothing.
 use native.Mathlib.Omega.{arith}
 use borrow.Author.Needs.{needs}
-use mathlib.Core.Path.{_≡_, refl, sym, ap, _∙_, subst}
+use mathlib.Core.Path.{sym, _∙_, subst}
 use borrow.Author.Tests.{not-true, not-false}
 use Rattle.model.specs.declared.implicit_model.Model.{Model as Record}
 use Rattle.model.specs.Edit.{done}
@@ -10,16 +11,6 @@ use Rattle.edit.proofs.Laws.Step.{meets-7}
 use Rattle.setting.proofs.Laws.Setting.{set-1, set-12, set-4, set-5, set-done}
 use Rattle.setting.proofs.set_parameter.Statement.{statement}
 use Rattle.setting.proofs.set_parameter.Tie as tie
-use Rattle.setting.proofs.set_parameter.Reads as reads
-use Rattle.setting.proofs.set_parameter.Lts as lts
-use Rattle.component.proofs.setting.set_parameter.Reads as set-parameter-reads
-use Rattle.edit.proofs.done.Reads as done-reads
-use Rattle.edit.proofs.refuse.Reads as refuse-reads
-use Rattle.edit.proofs.refuse_plain.Reads as refuse-plain-reads
-use Rattle.edit.proofs.rows.with_entry.Reads as with-entry-reads
-use Rattle.model.proofs.find.find_component.Reads as find-component-reads
-use Rattle.model.proofs.validity.is_valid.Reads as is-valid-reads
-use Rattle.tag.proofs.tag_of.Reads as tag-of-reads
 
 is-valid-requires : tie.Need-is-valid-requires
 is-valid-requires c κs = search needs

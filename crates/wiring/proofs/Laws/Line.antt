@@ -2,8 +2,8 @@
 use mathlib.Core.Path.{_≡_, refl, sym, _∙_, ap, subst}
 use mathlib.Core.Logic.{_≢_}
 use mathlib.Core.Bool.{Bool, true, false, cond, _||_}
-use mathlib.Core.List.{List, [], _∷_, _++_}
-use mathlib.Core.Option.{Option, none, some}
+use mathlib.Core.List.{List, [], _∷_}
+use mathlib.Core.Option.{none, some}
 use Prim.Native.Nat.{ℕ, zero, suc, _+_, _<_, _≤_}
 use native.Mathlib.Nat.{not-suc-le-zero, le-of-suc-le-suc, add-comm}
 use native.Mathlib.Numerals.{add-one}
@@ -21,19 +21,19 @@ use Rattle.model.specs.Table.{Table, find, distinct}
 use Rattle.model.specs.Model.{Place}
 use Rattle.model.specs.View.{placeOf, rows, listOf, listsOf, view, passes}
 use Rattle.model.specs.Walk.{Walked, clear, met, gapped, walk, walkFrom, total}
-use Rattle.model.proofs.Laws.Rows.{rows-length, rows-at, rows-next}
+use Rattle.model.proofs.Laws.Rows.{rows-length, rows-at}
 use Rattle.model.specs.declared.find.Found.{Found}
-use Rattle.model.specs.declared.find.Found.the-variants.{At, Nothing}
+use Rattle.model.specs.declared.find.Found.the-variants.{At}
 use Rattle.model.specs.Search.{Sought}
 use Rattle.model.proofs.Laws.Search.{row}
 use Rattle.model.proofs.Laws.Changes.{find-at, rows-apart}
-use Rattle.model.proofs.Laws.Standing.{Standing, standing}
+use Rattle.model.proofs.Laws.Standing.{standing}
 use Rattle.model.proofs.Theorems.Walk.{walk-ends}
 use Rattle.wiring.specs.declared.Line.{Line}
-use Rattle.wiring.specs.Walking.{Row, marks, Counted, started, pushed, Joined, absent, again, joins, Walkable, Startable, tagAt, Walks, Wires, Says, says-clear, says-met, says-gap}
+use Rattle.wiring.specs.Walking.{Row, Counted, started, pushed, Joined, absent, again, joins, Walkable, Startable, tagAt, Walks, Wires, Says, says-clear, says-met, says-gap}
 use Rattle.wiring.specs.declared.Ended.{Ended}
 use Rattle.wiring.specs.declared.Ended.the-variants.{Clear, Met, Gap}
-use Rattle.wiring.proofs.Laws.Walk.{Rows, nothing, present, Marked, Waits, Scans, walk-nil, absent-turn, waits-end, waits-first, scans-gap, scans-end, scans-absent, scans-again, scans-joins}
+use Rattle.wiring.proofs.Laws.Walk.{nothing, present, Waits, Scans, walk-nil, absent-turn, waits-end, waits-first, scans-gap, scans-end, scans-absent, scans-again, scans-joins}
 use Rattle.wiring.proofs.Laws.Marks.{marks-few, marks-more, marks-none}
 
 -- ---- rows
@@ -112,19 +112,19 @@ module _ (m : Record) (target from : ℕ) (w : Walkable m target from) where
   unfolding view
   going-end line head g h =
       waits-end (view m) (tagAt (listsOf m) target) (answer m target from) (row-found (listsOf m) once) listed
-        (subst (λ (rs : List ℕ). Waits (view m) (tagAt (listsOf m) target) (answer m target from) (line .seen) rs)
-          (drop-of-length-le (take (line .tail) (line .rows)) {i = head} (omega (arith, length-take (line .tail) (line .rows)))) (g .waits))
+      (subst (λ (rs : List ℕ). Waits (view m) (tagAt (listsOf m) target) (answer m target from) (line .seen) rs)
+      (drop-of-length-le (take (line .tail) (line .rows)) {i = head} (omega (arith, length-take (line .tail) (line .rows)))) (g .waits))
 
   -- the row at the head of the line has its turn
   module _ (line : Line) (head r : ℕ) (g : Going m target from line head) (h : head < line .tail) (few : line .tail ≤ 128) (e : r ≡ getD (line .rows) head 0) where
     waiting : drop head (take (line .tail) (line .rows)) ≡ r ∷ drop (suc head) (take (line .tail) (line .rows))
     waiting =
         drop-cons (take (line .tail) (line .rows)) head 0 (omega (arith, length-tail line (g .counted) few))
-          ∙ ap (λ (x : ℕ). x ∷ drop (suc head) (take (line .tail) (line .rows))) (getD-take (line .tail) (line .rows) head 0 h ∙ sym e)
+        ∙ ap (λ (x : ℕ). x ∷ drop (suc head) (take (line .tail) (line .rows))) (getD-take (line .tail) (line .rows) head 0 h ∙ sym e)
 
     turn : (t : Tag) × (l : List Place) × Row (listsOf m) r t l × (is t (tagAt (listsOf m) target) ≡ true → answer m target from ≡ met)
         × (is t (tagAt (listsOf m) target) ≡ false
-          → Scans (view m) (tagAt (listsOf m) target) (answer m target from) t 0 l (line .seen) (drop (suc head) (take (line .tail) (line .rows))))
+        → Scans (view m) (tagAt (listsOf m) target) (answer m target from) t 0 l (line .seen) (drop (suc head) (take (line .tail) (line .rows))))
     unfolding view
     turn = waits-first (view m) (tagAt (listsOf m) target) (answer m target from) (row-found (listsOf m) once) listed
         (subst (λ (rs : List ℕ). Waits (view m) (tagAt (listsOf m) target) (answer m target from) (line .seen) rs) waiting (g .waits))
@@ -143,11 +143,14 @@ module _ (m : Record) (target from : ℕ) (w : Walkable m target from) where
         let l = getD (m .lists) r d in
         let same : (turn .0, turn .1) ≡ listOf l = sym (turn .2 .entry ([], [])) ∙ x .entry ([], []) in
         let other : turn .0 ≢ tagAt (listsOf m) target = λ p. n (row-apart (listsOf m) once r target (turn .0) (turn .1) (getD (listsOf m) target ([], []) .1) (turn .2)
-            (subst (λ (t : Tag). Row (listsOf m) target t (getD (listsOf m) target ([], []) .1)) (sym p) (row-tag target (w .ends)))) in
+        (subst (λ (t : Tag). Row (listsOf m) target t (getD (listsOf m) target ([], []) .1)) (sym p) (row-tag target (w .ends)))) in
         record {
-          counted = g .counted; reached = h; row = x;
+          counted = g .counted;
+          reached = h;
+          row = x;
           scans = subst (λ (y : Tag × List Place). Scans (view m) (tagAt (listsOf m) target) (answer m target from) (y .0) 0 (y .1) (line .seen) (drop (suc head) (take (line .tail) (line .rows))))
-            same (turn .4 (is-false (turn .0) (tagAt (listsOf m) target) other)) }
+              same (turn .4 (is-false (turn .0) (tagAt (listsOf m) target) other));
+        }
 
   -- a place of the list has its turn
   module _ (line : Line) (head r : ℕ) (l : InputList) (i : ℕ) (s : Scanning m target from line head r l i) where
@@ -158,25 +161,27 @@ module _ (m : Record) (target from : ℕ) (w : Walkable m target from) where
     pub scanning-end : length (rows placeOf (l .count) (l .places)) ≤ i → Going m target from line (head + 1)
     unfolding view
     scanning-end h = record {
-      counted = s .counted; reached = omega (arith, s .reached);
+      counted = s .counted;
+      reached = omega (arith, s .reached);
       waits = subst (λ (n : ℕ). Waits (view m) (tagAt (listsOf m) target) (answer m target from) (line .seen) (drop n (take (line .tail) (line .rows)))) (sym (add-one head))
-        (scans-end (view m) (tagAt (listsOf m) target) (answer m target from) (row-found (listsOf m) once) listed (bytesOf (l .tag)) i
+          (scans-end (view m) (tagAt (listsOf m) target) (answer m target from) (row-found (listsOf m) once) listed (bytesOf (l .tag)) i
           (subst (λ (ps : List Place). Scans (view m) (tagAt (listsOf m) target) (answer m target from) (bytesOf (l .tag)) i ps (line .seen) (drop (suc head) (take (line .tail) (line .rows))))
-            (drop-of-length-le (rows placeOf (l .count) (l .places)) {i = i} h) (s .scans))) }
+          (drop-of-length-le (rows placeOf (l .count) (l .places)) {i = i} h) (s .scans)));
+    }
 
     module _ (d : PlaceRecord) (h : i < length (rows placeOf (l .count) (l .places))) where
       at : {o : Place} → placeOf (getD (l .places) i d) ≡ o
           → Scans (view m) (tagAt (listsOf m) target) (answer m target from) (bytesOf (l .tag)) i (o ∷ drop (suc i) (rows placeOf (l .count) (l .places)))
-            (line .seen) (drop (suc head) (take (line .tail) (line .rows)))
+          (line .seen) (drop (suc head) (take (line .tail) (line .rows)))
       at e = subst (λ (ps : List Place). Scans (view m) (tagAt (listsOf m) target) (answer m target from) (bytesOf (l .tag)) i ps (line .seen) (drop (suc head) (take (line .tail) (line .rows))))
           (drop-cons (rows placeOf (l .count) (l .places)) i (placeOf d) h
-            ∙ ap (λ (o : Place). o ∷ drop (suc i) (rows placeOf (l .count) (l .places))) (rows-at placeOf (l .places) (l .count) i d h ∙ e)) (s .scans)
+          ∙ ap (λ (o : Place). o ∷ drop (suc i) (rows placeOf (l .count) (l .places))) (rows-at placeOf (l .places) (l .count) i d h ∙ e)) (s .scans)
 
       pub scanning-gap : getD (l .places) i d .assigned ≡ false → answer m target from ≡ gapped (bytesOf (l .tag)) i
       unfolding view placeOf
       scanning-gap e =
           scans-gap (view m) (tagAt (listsOf m) target) (answer m target from) (row-found (listsOf m) once) listed (bytesOf (l .tag)) i
-            (at (ap (λ (b : Bool). cond b (some (bytesOf (getD (l .places) i d .tag))) none) e))
+          (at (ap (λ (b : Bool). cond b (some (bytesOf (getD (l .places) i d .tag))) none) e))
 
       -- an assigned place: its tag joins the line, or not
       pub scanning-next : getD (l .places) i d .assigned ≡ true → (v : Line) → Joined (listsOf m) (bytesOf (getD (l .places) i d .tag)) line v → Scanning m target from v head r l (i + 1)
@@ -185,12 +190,15 @@ module _ (m : Record) (target from : ℕ) (w : Walkable m target from) where
         where
           u : Tag
           u = bytesOf (getD (l .places) i d .tag)
+
           here : Scans (view m) (tagAt (listsOf m) target) (answer m target from) (bytesOf (l .tag)) i (some (bytesOf (getD (l .places) i d .tag)) ∷ drop (suc i) (rows placeOf (l .count) (l .places)))
-            (line .seen) (drop (suc head) (take (line .tail) (line .rows)))
+              (line .seen) (drop (suc head) (take (line .tail) (line .rows)))
           here = at (ap (λ (b : Bool). cond b (some (bytesOf (getD (l .places) i d .tag))) none) e)
+
           same : Scans (view m) (tagAt (listsOf m) target) (answer m target from) (bytesOf (l .tag)) (suc i) (drop (suc i) (rows placeOf (l .count) (l .places)))
-            (line .seen) (drop (suc head) (take (line .tail) (line .rows))) → v ≡ line → Scanning m target from v head r l (suc i)
+              (line .seen) (drop (suc head) (take (line .tail) (line .rows))) → v ≡ line → Scanning m target from v head r l (suc i)
           same x p = subst (λ (y : Line). Scanning m target from y head r l (suc i)) (sym p) (record { counted = s .counted; reached = s .reached; row = s .row; scans = x })
+
           more : (q : ℕ) (k : List Place) → Row (listsOf m) q (bytesOf (getD (l .places) i d .tag)) k → getD (line .seen) q false ≡ false → Scanning m target from (pushed line q) head r l (suc i)
           more q k x f =
               let c = s .counted in
@@ -198,12 +206,15 @@ module _ (m : Record) (target from : ℕ) (w : Walkable m target from) where
               let tail : line .tail < length (line .rows) = omega (arith, room .0, c .seen, c .rows, c .tail) in
               record {
                 counted = record { rows = length-set (line .rows) (line .tail) q ∙ c .rows; seen = length-set (line .seen) q true ∙ c .seen; tail = room .1 ∙ ap (λ (n : ℕ). n + 1) (c .tail) };
-                reached = omega (arith, s .reached); row = s .row;
+                reached = omega (arith, s .reached);
+                row = s .row;
                 scans = subst (λ (rs : List ℕ). Scans (view m) (tagAt (listsOf m) target) (answer m target from) (bytesOf (l .tag)) (suc i) (drop (suc i) (rows placeOf (l .count) (l .places))) (set (line .seen) q true) rs)
-                  (sym (ap (λ (n : ℕ). drop (suc head) (take n (set (line .rows) (line .tail) q))) (add-one (line .tail)) ∙ (ap (drop (suc head)) (take-suc-set (line .rows) (line .tail) q tail)
+                    (sym (ap (λ (n : ℕ). drop (suc head) (take n (set (line .rows) (line .tail) q))) (add-one (line .tail)) ∙ (ap (drop (suc head)) (take-suc-set (line .rows) (line .tail) q tail)
                     ∙ drop-append-le (suc head) (take (line .tail) (line .rows)) (q ∷ []) (omega (arith, s .reached, length-take (line .tail) (line .rows))))))
-                  (scans-joins (view m) (tagAt (listsOf m) target) (answer m target from) (row-found (listsOf m) once) listed (bytesOf (l .tag)) i here (row-apart (listsOf m) once) x
-                    (omega (arith, x .within, rows-length listOf (m .lists) (m .«list_count»), standing m (w .passing) .few-lists, c .seen)) f) }
+                    (scans-joins (view m) (tagAt (listsOf m) target) (answer m target from) (row-found (listsOf m) once) listed (bytesOf (l .tag)) i here (row-apart (listsOf m) once) x
+                    (omega (arith, x .within, rows-length listOf (m .lists) (m .«list_count»), standing m (w .passing) .few-lists, c .seen)) f);
+              }
+
           go : Joined (listsOf m) (bytesOf (getD (l .places) i d .tag)) line v → Scanning m target from v head r l (suc i)
           go (absent n p) = same (scans-absent (view m) (tagAt (listsOf m) target) (answer m target from) (row-found (listsOf m) once) listed (bytesOf (l .tag)) i here n) p
           go (again x f p) = same (scans-again (view m) (tagAt (listsOf m) target) (answer m target from) (row-found (listsOf m) once) listed (bytesOf (l .tag)) i here x f) p
@@ -219,21 +230,25 @@ module _ (m : Record) (target from : ℕ) (w : Walkable m target from) where
         counted = record { rows = length-replicate 128 from; seen = length-set (replicate 128 false) from true ∙ length-replicate 128 false; tail = room .1 ∙ ap (λ (n : ℕ). n + 1) (marks-none 128) };
         reached = omega arith;
         waits = record {
-          turns = suc (suc (total (listsOf m))); seen = tagAt (listsOf m) from ∷ []; line = tagAt (listsOf m) from ∷ [];
+          turns = suc (suc (total (listsOf m)));
+          seen = tagAt (listsOf m) from ∷ [];
+          line = tagAt (listsOf m) from ∷ [];
           answer = λ d. ap (λ (n : ℕ). walk n (view m) (tagAt (listsOf m) target) (tagAt (listsOf m) from ∷ []) (tagAt (listsOf m) from ∷ [])) (add-comm (suc (suc (total (listsOf m)))) d)
-            ∙ walk-ends d (view m) (tagAt (listsOf m) target) (tagAt (listsOf m) from);
+              ∙ walk-ends d (view m) (tagAt (listsOf m) target) (tagAt (listsOf m) from);
           marked = λ r t l x. seen-one below r t l x (is t (tagAt (listsOf m) from)) refl;
-          rows = present (row-tag from (w .starts)) nothing } }
+          rows = present (row-tag from (w .starts)) nothing;
+        };
+      }
     where
       seen-one : from < 128 → (r : ℕ) (t : Tag) (l : List Place) → Row (listsOf m) r t l → (b : Bool) → is t (tagAt (listsOf m) from) ≡ b → (b || false) ≡ getD (set (replicate 128 false) from true) r false
       seen-one h r t l x true e =
           let z : r ≡ from = row-apart (listsOf m) once r from t l (getD (listsOf m) from ([], []) .1) x
-              (subst (λ (y : Tag). Row (listsOf m) from y (getD (listsOf m) from ([], []) .1)) (sym (is-true t (tagAt (listsOf m) from) e)) (row-tag from (w .starts))) in
+          (subst (λ (y : Tag). Row (listsOf m) from y (getD (listsOf m) from ([], []) .1)) (sym (is-true t (tagAt (listsOf m) from) e)) (row-tag from (w .starts))) in
           sym (ap (λ (n : ℕ). getD (set (replicate 128 false) from true) n false) z ∙ getD-set-same (replicate 128 false) from true false (omega (arith, length-replicate 128 false)))
       seen-one h r t l x false e =
           sym (getD-set-other (replicate 128 false) from r true false
-            (λ z. let p : tagAt (listsOf m) from ≡ t = ap (tagAt (listsOf m)) (sym z) ∙ ap (λ (y : Tag × List Place). y .0) (x .entry ([], [])) in
-              absurd (let q : _≡_ {A = ℕ} 0 1 = cc (e, is-refl t, ap (is t) p) in let y : ⊥ = omega arith in y)) ∙ getD-false 128 r)
+          (λ z. let p : tagAt (listsOf m) from ≡ t = ap (tagAt (listsOf m)) (sym z) ∙ ap (λ (y : Tag × List Place). y .0) (x .entry ([], [])) in
+          absurd (let q : _≡_ {A = ℕ} 0 1 = cc (e, is-refl t, ap (is t) p) in let y : ⊥ = omega arith in y)) ∙ getD-false 128 r)
 
 -- ---- a list found
 
@@ -264,9 +279,9 @@ wires-absent m target s w e =
     let once = standing m (w .passing) .once-lists in
     let t = tagAt (listsOf m) target in
     let listed : find t (listsOf m) ≢ none = λ n.
-        absurd (let z : _≡_ {A = ℕ} 0 1 = cc (n, row-found (listsOf m) once target _ _ (row-tag-at (listsOf m) target (w .ends))) in let y : ⊥ = omega arith in y) in
+    absurd (let z : _≡_ {A = ℕ} 0 1 = cc (n, row-found (listsOf m) once target _ _ (row-tag-at (listsOf m) target (w .ends))) in let y : ⊥ = omega arith in y) in
     subst (λ (a : Walked). Says (listsOf m) Clear a)
-      (sym (absent-turn (view m) t clear (row-found (listsOf m) once) listed (suc (total (listsOf m))) s (s ∷ []) [] e ∙ walk-nil (suc (total (listsOf m))) (view m) t (s ∷ []))) says-clear
+    (sym (absent-turn (view m) t clear (row-found (listsOf m) once) listed (suc (total (listsOf m))) s (s ∷ []) [] e ∙ walk-nil (suc (total (listsOf m))) (view m) t (s ∷ []))) says-clear
 
 -- a tag with a list is walked from its row
 pub wires-row : (m : Record) (target q : ℕ) (s : Tag) {l : List Place} {e : Ended} → Row (listsOf m) q s l → Walks m target q e → Wires m target s e

@@ -1,32 +1,24 @@
 -- One place of a list replaced. Assumes nothing.
-use mathlib.Core.Path.{_≡_, refl, sym, _∙_, ap, subst}
-use mathlib.Core.Bool.{Bool, true, false}
+use mathlib.Core.Path.{_≡_, sym, _∙_, ap, subst}
+use mathlib.Core.Bool.{Bool}
 use mathlib.Core.List.{List, [], _∷_}
-use mathlib.Core.Option.{none, some}
-use Prim.Native.Nat.{ℕ, _<_, _≤_}
+use Prim.Native.Nat.{ℕ, _<_}
 use native.Mathlib.Omega.{arith}
 use lib.Dec.{T, leb}
 use lib.ListN.{length, getD, set}
-use borrow.Author.Tests.{le-leb, lt-leb}
 use Rattle.tag.specs.Tags.{Tag}
-use Rattle.tag.specs.declared.Tag.{Tag as Label}
-use Rattle.tag.specs.View.{bytesOf, tagFits, Labelled}
+use Rattle.tag.specs.View.{tagFits}
 use Rattle.model.specs.declared.implicit_model.InputList.{InputList}
 use Rattle.model.specs.declared.implicit_model.Model.{Model as Record}
 use Rattle.model.specs.declared.implicit_model.Place.{Place as PlaceRecord}
-use Rattle.model.specs.Table.{find, put}
-use Rattle.model.specs.Model.{Place, list}
-use Rattle.model.specs.View.{every, placeOf, rows, listOf, listsOf, placeFits, listFits, view}
-use Rattle.model.specs.declared.find.Found.{Found}
-use Rattle.model.specs.declared.find.Found.the-variants.{At}
-use Rattle.model.specs.Search.{Sought}
-use Rattle.model.proofs.Laws.Bool.{true→T}
-use Rattle.model.proofs.Laws.Rows.{rows-set, rows-at, rows-length}
+use Rattle.model.specs.Table.{put}
+use Rattle.model.specs.Model.{Place}
+use Rattle.model.specs.View.{every, placeOf, rows, listOf, listsOf, placeFits, listFits}
+use Rattle.model.proofs.Laws.Rows.{rows-set, rows-length}
 use Rattle.model.proofs.Laws.Search.{RowAt}
 use Rattle.model.proofs.Laws.Valid.{passed, unpassed}
 use Rattle.model.proofs.Laws.Standing.{Standing, every-set}
 use Rattle.edit.proofs.Laws.Stored.{Stored, over-row, row-fits}
-use Rattle.edit.proofs.Laws.Tests.{found-row}
 use Rattle.wiring.specs.Placing.{placedAt}
 
 placed-fits : (l : InputList) (i : ℕ) (p : PlaceRecord) → i < l .count → T (listFits l) → T (placeFits p) → T (listFits (placedAt l i p))
@@ -34,7 +26,7 @@ unfolding listFits
 placed-fits l i p h f o =
     let q = passed (tagFits (l .tag) ∷ leb (l .count) 3 ∷ every (rows placeFits (l .count) (l .places)) ∷ []) f in
     unpassed (tagFits (l .tag) ∷ leb (l .count) 3 ∷ every (rows placeFits (l .count) (set (l .places) i p)) ∷ [])
-      (q .0, (q .1 .0, (subst (λ (bs : List Bool). T (every bs)) (sym (rows-set placeFits (l .places) (l .count) i p h)) (every-set (rows placeFits (l .count) (l .places)) i (placeFits p) (q .1 .1 .0) o), tt)))
+    (q .0, (q .1 .0, (subst (λ (bs : List Bool). T (every bs)) (sym (rows-set placeFits (l .places) (l .count) i p h)) (every-set (rows placeFits (l .count) (l .places)) i (placeFits p) (q .1 .1 .0) o), tt)))
 
 -- the list of t at i, with place k replaced by p, which means o
 module _ (m : Record) (g : Standing m) {t : Tag} (i : ℕ) (d : InputList) (at : RowAt listOf (m .lists) (m .«list_count») i t d) (k : ℕ)
@@ -44,11 +36,11 @@ module _ (m : Record) (g : Standing m) {t : Tag} (i : ℕ) (d : InputList) (at :
 
   pub placed-stored : (p : PlaceRecord) (o : Place) → placeOf p ≡ o → T (placeFits p)
       → Stored listOf listFits (put t (set (rows placeOf (getD (m .lists) i d .count) (getD (m .lists) i d .places)) k o) (listsOf m)) (m .«list_count»)
-        (set (m .lists) i (placedAt (getD (m .lists) i d) k p))
+      (set (m .lists) i (placedAt (getD (m .lists) i d) k p))
   placed-stored p o e f =
       let l = getD (m .lists) i d in
       let same : listOf (placedAt l k p) ≡ (t, set (rows placeOf (l .count) (l .places)) k o) =
-          λ j. (at .tag j, (rows-set placeOf (l .places) (l .count) k p below ∙ ap (set (rows placeOf (l .count) (l .places)) k) e) j) in
+      λ j. (at .tag j, (rows-set placeOf (l .places) (l .count) k p below ∙ ap (set (rows placeOf (l .count) (l .places)) k) e) j) in
       over-row listOf listFits (m .lists) (m .«list_count») t (set (rows placeOf (l .count) (l .places)) k o) (placedAt l k p) same
-        (placed-fits l k p below (row-fits listFits (m .lists) (m .«list_count») i d (g .lists) (at .below) (omega (arith, at .within, rows-length listOf (m .lists) (m .«list_count»)))) f)
-        (g .once-lists) (g .lists) i d at
+      (placed-fits l k p below (row-fits listFits (m .lists) (m .«list_count») i d (g .lists) (at .below) (omega (arith, at .within, rows-length listOf (m .lists) (m .«list_count»)))) f)
+      (g .once-lists) (g .lists) i d at

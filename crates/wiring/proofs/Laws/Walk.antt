@@ -1,10 +1,10 @@
 -- The walk over rows of lists answers what the walk over tags is defined to. Assumes nothing.
 use mathlib.Core.Path.{_≡_, refl, sym, _∙_, ap, subst}
-use mathlib.Core.Logic.{_⊎_, inl, inr, _≢_}
+use mathlib.Core.Logic.{_≢_}
 use mathlib.Core.Bool.{Bool, true, false, cond, _||_}
 use mathlib.Core.List.{List, [], _∷_, _++_, append-assoc, append-nil}
 use mathlib.Core.Option.{Option, none, some, Option·getD}
-use Prim.Native.Nat.{ℕ, zero, suc, _+_, _<_, _≤_}
+use Prim.Native.Nat.{ℕ, zero, suc, _+_, _<_}
 use native.Mathlib.Nat.{add-suc}
 use native.Mathlib.Omega.{arith}
 use lib.ListN.{length, getD, set}
@@ -12,7 +12,7 @@ use lib.Seq.{getD-set-same, getD-set-other}
 use Rattle.tag.specs.Tags.{Tag, is}
 use Rattle.tag.proofs.Laws.Is.{is-refl, is-true, is-false}
 use Rattle.model.specs.Table.{any, Table, find}
-use Rattle.model.specs.Model.{Place, Model, list, inputs}
+use Rattle.model.specs.Model.{Place, Model, inputs}
 use Rattle.model.specs.Walk.{gap, tags, fresh, Walked, clear, met, gapped, walk}
 use Rattle.wiring.specs.Walking.{Row}
 
@@ -45,8 +45,8 @@ walk-same (suc k) m target a b h (t ∷ line) =
     let ts = tags (inputs m t) in
     let e = fresh-same a b h ts in
     ap (λ (w : Walked). elim (is t target) as (λ _. Walked) [ true ↦ met | false ↦ elim (gap 0 (inputs m t)) as (λ _. Walked) [ some i ↦ gapped t i | none ↦ w ] ])
-      (ap (λ (f : List Tag). walk k m target (f ++ a) (line ++ f)) e
-        ∙ walk-same k m target (fresh b ts ++ a) (fresh b ts ++ b) (λ s. any-append (is s) (fresh b ts) a b (h s)) (line ++ fresh b ts))
+    (ap (λ (f : List Tag). walk k m target (f ++ a) (line ++ f)) e
+    ∙ walk-same k m target (fresh b ts ++ a) (fresh b ts ++ b) (λ s. any-append (is s) (fresh b ts) a b (h s)) (line ++ fresh b ts))
 
 -- ---- a turn, place by place
 
@@ -83,8 +83,8 @@ module _ (k : ℕ) (m : Model) (target t : Tag) (seen line : List Tag) (i : ℕ)
   scan-new s l e =
       let f = fresh (s ∷ seen) (tags l) in
       ap (λ (w : Walked). elim (gap (suc i) l) as (λ _. Walked) [ some j ↦ gapped t j | none ↦ w ])
-        (ap (λ (g : List Tag). walk k m target (g ++ seen) (line ++ g)) (fresh-new seen s (tags l) e) ∙ (walk-same k m target (s ∷ f ++ seen) (f ++ s ∷ seen) (λ x. sym (any-mid (is x) f s seen)) (line ++ s ∷ f)
-          ∙ ap (walk k m target (f ++ s ∷ seen)) (sym (append-assoc line (s ∷ []) f))))
+      (ap (λ (g : List Tag). walk k m target (g ++ seen) (line ++ g)) (fresh-new seen s (tags l) e) ∙ (walk-same k m target (s ∷ f ++ seen) (f ++ s ∷ seen) (λ x. sym (any-mid (is x) f s seen)) (line ++ s ∷ f)
+      ∙ ap (walk k m target (f ++ s ∷ seen)) (sym (append-assoc line (s ∷ []) f))))
 
 pub walk-nil : (k : ℕ) (m : Model) (target : Tag) (seen : List Tag) → walk k m target seen [] ≡ clear
 unfolding walk
@@ -149,7 +149,7 @@ module _ (m : Model) (target : Tag) (a : Walked) (found : (r : ℕ) (t : Tag) (l
   pub absent-turn : (k : ℕ) (t : Tag) (seen line : List Tag) → find t (m .lists) ≡ none → walk (suc k) m target seen (t ∷ line) ≡ walk k m target seen line
   absent-turn k t seen line e =
       turn-scan k m target t seen line (is-false t target (λ p. listed (ap (λ (x : Tag). find x (m .lists)) (sym p) ∙ e)))
-        ∙ (ap (λ (o : Option (List Place)). scan k m target t seen line 0 (Option·getD o [])) e ∙ scan-end k m target t seen line 0)
+      ∙ (ap (λ (o : Option (List Place)). scan k m target t seen line 0 (Option·getD o [])) e ∙ scan-end k m target t seen line 0)
 
   next : {x : Walked} (turns d : ℕ) (seen line : List Tag) → walk (turns + suc d) m target seen line ≡ x → walk (suc (turns + d)) m target seen line ≡ x
   next {x} turns d seen line h = subst (λ (n : ℕ). walk n m target seen line ≡ x) (add-suc turns d) h
@@ -171,12 +171,21 @@ module _ (m : Model) (target : Tag) (a : Walked) (found : (r : ℕ) (t : Tag) (l
           → (t : Tag) × (l : List Place) × Row (m .lists) r t l × (is t target ≡ true → a ≡ met) × (is t target ≡ false → Scans m target a t 0 l bs rs)
       go line (absent {t} {ts} e x) h = go ts x (λ d. sym (absent-turn (w .turns + d) t (w .seen) ts e) ∙ next (w .turns) d (w .seen) (t ∷ ts) (h (suc d)))
       go line (present {t} {ts} {l = l} x y) h =
-          let step : (d : ℕ) → walk (suc (w .turns + d)) m target (w .seen) (t ∷ ts) ≡ a = λ d. next (w .turns) d (w .seen) (t ∷ ts) (h (suc d)) in
-          (t, l, x, (λ e. sym (step 0) ∙ turn-met (w .turns + 0) m target t (w .seen) ts e),
+          let step : (d : ℕ) → walk (suc (w .turns + d)) m target (w .seen) (t ∷ ts) ≡ a = λ d. next (w .turns) d (w .seen) (t ∷ ts) (h (suc d)) in (
+            t,
+            l,
+            x,
+            (λ e. sym (step 0) ∙ turn-met (w .turns + 0) m target t (w .seen) ts e),
             (λ e. record {
-              turns = w .turns; seen = w .seen; line = ts; marked = w .marked; rows = y;
+              turns = w .turns;
+              seen = w .seen;
+              line = ts;
+              marked = w .marked;
+              rows = y;
               answer = λ d. ap (λ (o : Option (List Place)). scan (w .turns + d) m target t (w .seen) ts 0 (Option·getD o [])) (sym (found r t l x))
-                ∙ (sym (turn-scan (w .turns + d) m target t (w .seen) ts e) ∙ step d) }))
+                  ∙ (sym (turn-scan (w .turns + d) m target t (w .seen) ts e) ∙ step d);
+            }),
+          )
 
   module _ (t : Tag) (i : ℕ) {bs : List Bool} {rs : List ℕ} where
     -- a gap
@@ -186,20 +195,35 @@ module _ (m : Model) (target : Tag) (a : Walked) (found : (r : ℕ) (t : Tag) (l
     -- the turn is over
     pub scans-end : Scans m target a t i [] bs rs → Waits m target a bs rs
     scans-end s = record {
-      turns = s .turns; seen = s .seen; line = s .line; marked = s .marked; rows = s .rows;
-      answer = λ d. sym (scan-end (s .turns + d) m target t (s .seen) (s .line) i) ∙ s .answer d }
+      turns = s .turns;
+      seen = s .seen;
+      line = s .line;
+      marked = s .marked;
+      rows = s .rows;
+      answer = λ d. sym (scan-end (s .turns + d) m target t (s .seen) (s .line) i) ∙ s .answer d;
+    }
 
     module _ {u : Tag} {l : List Place} (s : Scans m target a t i (some u ∷ l) bs rs) where
       seen-before : any (is u) (s .seen) ≡ true → Scans m target a t (suc i) l bs rs
       seen-before e = record {
-        turns = s .turns; seen = s .seen; line = s .line; marked = s .marked; rows = s .rows;
-        answer = λ d. sym (scan-old (s .turns + d) m target t (s .seen) (s .line) i u l e) ∙ s .answer d }
+        turns = s .turns;
+        seen = s .seen;
+        line = s .line;
+        marked = s .marked;
+        rows = s .rows;
+        answer = λ d. sym (scan-old (s .turns + d) m target t (s .seen) (s .line) i u l e) ∙ s .answer d;
+      }
 
       seen-first : {cs : List Bool} {qs : List ℕ} → any (is u) (s .seen) ≡ false → Marked (m .lists) (u ∷ s .seen) cs → Rows (m .lists) (s .line ++ (u ∷ [])) qs
           → Scans m target a t (suc i) l cs qs
       seen-first e k r = record {
-        turns = s .turns; seen = u ∷ s .seen; line = s .line ++ (u ∷ []); marked = k; rows = r;
-        answer = λ d. sym (scan-new (s .turns + d) m target t (s .seen) (s .line) i u l e) ∙ s .answer d }
+        turns = s .turns;
+        seen = u ∷ s .seen;
+        line = s .line ++ (u ∷ []);
+        marked = k;
+        rows = r;
+        answer = λ d. sym (scan-new (s .turns + d) m target t (s .seen) (s .line) i u l e) ∙ s .answer d;
+      }
 
       -- a tag without a list: whether it has been seen makes no difference to the rows
       pub scans-absent : find u (m .lists) ≡ none → Scans m target a t (suc i) l bs rs
@@ -207,6 +231,7 @@ module _ (m : Model) (target : Tag) (a : Walked) (found : (r : ℕ) (t : Tag) (l
         where
           other : (r : ℕ) (v : Tag) (k : List Place) → Row (m .lists) r v k → is v u ≡ false
           other r v k x = is-false v u (λ p. let z : _≡_ {A = ℕ} 0 1 = cc (found r v k x, n, ap (λ (y : Tag). find y (m .lists)) p) in absurd (let y : ⊥ = omega arith in y))
+
           go : (b : Bool) → any (is u) (s .seen) ≡ b → Scans m target a t (suc i) l bs rs
           go true e = seen-before e
           go false e = seen-first e (λ r v k x. ap (λ (b : Bool). b || any (is v) (s .seen)) (other r v k x) ∙ s .marked r v k x) (rows-absent u n (s .line) rs (s .rows))

@@ -1,10 +1,9 @@
 -- Each way out of `add_input` and `remove_input`. Assumes nothing.
 use mathlib.Core.Path.{_≡_, refl, sym, _∙_, ap, subst}
-use mathlib.Core.Bool.{Bool, true, false, not}
-use mathlib.Core.List.{List, [], _∷_}
+use mathlib.Core.Bool.{true, false, not}
+use mathlib.Core.List.{List, []}
 use mathlib.Core.Option.{Option, none, some}
-use Prim.Native.Nat.{ℕ, suc, _<_, _≤_}
-use native.Mathlib.Omega.{arith}
+use Prim.Native.Nat.{ℕ, _<_, _≤_}
 use lib.Dec.{T, leb}
 use lib.ListN.{length, getD, set, take}
 use borrow.Author.Tests.{le-leb, lt-leb}
@@ -18,7 +17,7 @@ use Rattle.model.specs.declared.find.Found.{Found}
 use Rattle.model.specs.declared.find.Found.the-variants.{At, Nothing}
 use Rattle.model.specs.Table.{held}
 use Rattle.model.specs.Model.{Place, list}
-use Rattle.model.specs.Edit.{addInput, removeInput, done, Outcome, edit, withList as wired, walked, wireIn, addWire, unwireIn, removeWire}
+use Rattle.model.specs.Edit.{addInput, removeInput, done, edit, withList as wired, walked, wireIn, addWire, unwireIn, removeWire}
 use Rattle.model.specs.View.{placeOf, rows, componentsOf, listOf, listsOf, placeFits, view, passes}
 use Rattle.model.specs.Search.{Sought}
 use Rattle.model.specs.Walk.{Walked, clear, met, gapped, walkFrom}
@@ -113,8 +112,8 @@ module _ (m : Record) (t : Tag) (k : ℕ) (r : Edited) (v : passes m ≡ true) w
       remove-done h y z =
           let ps = rows placeOf (getD (m .lists) i d .count) (getD (m .lists) i d .places) in
           in-list (some ps) (list-some m v t f (sought-by lt q) i e d)
-            (skip (leb (length ps) k) 3 t k (lt-leb (length ps) k h)
-              (placed-done m v t f (sought-by lt q) i e d k h (record { assigned = false; tag = y }) none (unassigned y) (unassigned-fits y) z))
+          (skip (leb (length ps) k) 3 t k (lt-leb (length ps) k h)
+          (placed-done m v t f (sought-by lt q) i e d k h (record { assigned = false; tag = y }) none (unassigned y) (unassigned-fits y) z))
 
 -- ---- `add_input`
 
@@ -144,23 +143,23 @@ module _ (m : Record) (t u : Tag) (k : ℕ) (r : Edited) (v : passes m ≡ true)
       unfolding addWire view
       add-12 e z =
           onto (skip (overlong t) 1 empty 0 (short t st) (skip (overlong u) 1 empty 0 (short u su)
-            (stop (not (held t (componentsOf m))) 12 t 0 _ (ap not (free (sought-by lx p) e)) (carrying lx z))))
+          (stop (not (held t (componentsOf m))) 12 t 0 _ (ap not (free (sought-by lx p) e)) (carrying lx z))))
 
       module _ {i : ℕ} (e : f ≡ At i) (g : Found) (q : Sought (componentsOf m) 64 (bytesOf y) g) where
         pub add-12-source : g ≡ Nothing → Refused m 12 (bytesOf y) 0 r → Meets (addInput t u k) m r
         unfolding addWire view
         add-12-source n z =
             onto (skip (overlong t) 1 empty 0 (short t st) (skip (overlong u) 1 empty 0 (short u su)
-              (skip (not (held t (componentsOf m))) 12 t 0 (ap not (taken (sought-by lx p) e))
-              (stop (not (held u (componentsOf m))) 12 u 0 _ (ap not (free (sought-by ly q) n)) (carrying ly z)))))
+            (skip (not (held t (componentsOf m))) 12 t 0 (ap not (taken (sought-by lx p) e))
+            (stop (not (held u (componentsOf m))) 12 u 0 _ (ap not (free (sought-by ly q) n)) (carrying ly z)))))
 
         module _ {j : ℕ} (n : g ≡ At j) (h : Found) (o : Sought (listsOf m) 128 (bytesOf x) h) where
           into : (l : Option (List Place)) → list (view m) t ≡ l → Step (wireIn (view m) t u k l) m r → Meets (addInput t u k) m r
           unfolding addWire view
           into l a s =
               onto (skip (overlong t) 1 empty 0 (short t st) (skip (overlong u) 1 empty 0 (short u su)
-                (skip (not (held t (componentsOf m))) 12 t 0 (ap not (taken (sought-by lx p) e)) (skip (not (held u (componentsOf m))) 12 u 0 (ap not (taken (sought-by ly q) n))
-                (subst (λ (b : Option (List Place)). Step (wireIn (view m) t u k b) m r) (sym a) s)))))
+              (skip (not (held t (componentsOf m))) 12 t 0 (ap not (taken (sought-by lx p) e)) (skip (not (held u (componentsOf m))) 12 u 0 (ap not (taken (sought-by ly q) n))
+              (subst (λ (b : Option (List Place)). Step (wireIn (view m) t u k b) m r) (sym a) s)))))
 
           pub add-12-list : h ≡ Nothing → Refused m 12 (bytesOf x) 0 r → Meets (addInput t u k) m r
           add-12-list a z = into none (list-none m v t h (sought-by lx o) a) (refusal (carrying lx z))
@@ -183,7 +182,7 @@ module _ (m : Record) (t u : Tag) (k : ℕ) (r : Edited) (v : passes m ≡ true)
               after z q s =
                   let ps = rows placeOf (getD (m .lists) c d .count) (getD (m .lists) c d .places) in
                   into (some ps) (list-some m v t h (sought-by lx o) c a d) (skip (leb (length ps) k) 3 t k (lt-leb (length ps) k b)
-                    (subst (λ (x : Walked). Step (walked (view m) t (record { answer = done; model = wired (view m) t (set ps k (some u)) }) x) m r) (sym q ∙ same) s))
+                  (subst (λ (x : Walked). Step (walked (view m) t (record { answer = done; model = wired (view m) t (set ps k (some u)) }) x) m r) (sym q ∙ same) s))
 
               pub add-14 : w ≡ Met → Refused m 14 (bytesOf x) 0 r → Meets (addInput t u k) m r
               add-14 q z = after met (said-met (listsOf m) w _ s q) (refusal (carrying lx z))
@@ -192,13 +191,13 @@ module _ (m : Record) (t u : Tag) (k : ℕ) (r : Edited) (v : passes m ≡ true)
               add-13 n i q d z =
                   let y = said-gap (listsOf m) w (walkFrom (view m) (tagAt (listsOf m) c) (bytesOf y)) n i s q in
                   let e : bytesOf (getD (m .lists) n d .tag) ≡ y .0 =
-                      ap (λ (z : Tag × List Place). z .0) (sym (row-of listOf (m .lists) (m .«list_count») n d (y .2 .within) .entry ([], [])) ∙ y .2 .entry ([], [])) in
+                  ap (λ (z : Tag × List Place). z .0) (sym (row-of listOf (m .lists) (m .«list_count») n d (y .2 .within) .entry ([], [])) ∙ y .2 .entry ([], [])) in
                   after (gapped (y .0) i) (y .3) (refusal (subst (λ (b : Tag). Refused m 13 b i r) e z))
 
               pub add-done : w ≡ Clear → Ends done (withList m c (placedAt (getD (m .lists) c d) k (record { assigned = true; tag = y }))) r → Meets (addInput t u k) m r
               add-done q z =
                   after clear (said-clear (listsOf m) w _ s q)
-                    (placed-done m v t h (sought-by lx o) c a d k b (record { assigned = true; tag = y }) (some u) (assigned ly) (assigned-fits ly) z)
+                  (placed-done m v t h (sought-by lx o) c a d k b (record { assigned = true; tag = y }) (some u) (assigned ly) (assigned-fits ly) z)
 
 -- the row of a gap is one of the table's
 pub gap-below : (m : Record) (c : ℕ) (u : Tag) (w : Ended) (n i : ℕ) → passes m ≡ true → Wires m c u w → w ≡ Gap n i → n < 128

@@ -1,6 +1,7 @@
+-- `wiring::add_input` meets its contract. Assumes nothing.
 use native.Mathlib.Omega.{arith}
 use borrow.Author.Needs.{needs}
-use mathlib.Core.Path.{_≡_, refl, sym, ap, _∙_, subst}
+use mathlib.Core.Path.{sym, ap, _∙_, subst}
 use borrow.Author.Tests.{not-true, not-false}
 use Rattle.model.specs.declared.implicit_model.InputList.{InputList}
 use Rattle.model.specs.declared.implicit_model.Model.{Model as Record}
@@ -13,19 +14,6 @@ use Rattle.wiring.proofs.Laws.Line.{sought-row}
 use Rattle.wiring.proofs.Laws.Wiring.{add-1, add-1-source, add-12, add-12-source, add-12-list, add-3, add-14, add-13, add-done, gap-below}
 use Rattle.wiring.proofs.add_input.Statement.{statement}
 use Rattle.wiring.proofs.add_input.Tie as tie
-use Rattle.wiring.proofs.add_input.Reads as reads
-use Rattle.wiring.proofs.add_input.Lts as lts
-use Rattle.edit.proofs.done.Reads as done-reads
-use Rattle.edit.proofs.refuse.Reads as refuse-reads
-use Rattle.edit.proofs.refuse_plain.Reads as refuse-plain-reads
-use Rattle.edit.proofs.rows.with_list.Reads as with-list-reads
-use Rattle.model.proofs.find.find_component.Reads as find-component-reads
-use Rattle.model.proofs.find.find_list.Reads as find-list-reads
-use Rattle.model.proofs.find.places_held.Reads as places-held-reads
-use Rattle.model.proofs.validity.is_valid.Reads as is-valid-reads
-use Rattle.tag.proofs.tag_of.Reads as tag-of-reads
-use Rattle.wiring.proofs.placed.Reads as placed-reads
-use Rattle.wiring.proofs.walk_from.Reads as walk-from-reads
 
 is-valid-requires : tie.Need-is-valid-requires
 is-valid-requires c κs = search needs

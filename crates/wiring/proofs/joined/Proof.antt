@@ -1,16 +1,14 @@
+-- `wiring::joined` meets its contract. Assumes nothing.
 use native.Mathlib.Omega.{arith}
 use borrow.Author.Needs.{needs}
-use mathlib.Core.Path.{_≡_, refl, sym, ap, _∙_}
-use Prim.Native.Nat.{ℕ, _<_}
+use mathlib.Core.Path.{refl}
+use Prim.Native.Nat.{_<_}
 use Rattle.wiring.specs.Walking.{absent, again, joins}
 use Rattle.edit.proofs.Laws.Tests.{missing}
 use Rattle.wiring.proofs.Laws.Marks.{marks-more}
 use Rattle.wiring.proofs.Laws.Line.{sought-row}
 use Rattle.wiring.proofs.joined.Statement.{statement}
 use Rattle.wiring.proofs.joined.Tie as tie
-use Rattle.wiring.proofs.joined.Reads as reads
-use Rattle.wiring.proofs.joined.Lts as lts
-use Rattle.model.proofs.find.find_list.Reads as find-list-reads
 
 -- the position found is below the table's size
 below : (c : tie.After-known-told) → c .before .f .given .0 .0 < 128

@@ -1,6 +1,7 @@
+-- `wiring::remove_input` meets its contract. Assumes nothing.
 use native.Mathlib.Omega.{arith}
 use borrow.Author.Needs.{needs}
-use mathlib.Core.Path.{_≡_, refl, sym, ap, _∙_, subst}
+use mathlib.Core.Path.{sym, ap, _∙_, subst}
 use borrow.Author.Tests.{not-true, not-false}
 use Rattle.model.specs.declared.implicit_model.InputList.{InputList}
 use Rattle.model.specs.declared.implicit_model.Model.{Model as Record}
@@ -12,17 +13,6 @@ use Rattle.edit.proofs.Laws.Step.{meets-7}
 use Rattle.wiring.proofs.Laws.Wiring.{remove-1, remove-12, remove-3, remove-done}
 use Rattle.wiring.proofs.remove_input.Statement.{statement}
 use Rattle.wiring.proofs.remove_input.Tie as tie
-use Rattle.wiring.proofs.remove_input.Reads as reads
-use Rattle.wiring.proofs.remove_input.Lts as lts
-use Rattle.edit.proofs.done.Reads as done-reads
-use Rattle.edit.proofs.refuse.Reads as refuse-reads
-use Rattle.edit.proofs.refuse_plain.Reads as refuse-plain-reads
-use Rattle.edit.proofs.rows.with_list.Reads as with-list-reads
-use Rattle.model.proofs.find.find_list.Reads as find-list-reads
-use Rattle.model.proofs.find.places_held.Reads as places-held-reads
-use Rattle.model.proofs.validity.is_valid.Reads as is-valid-reads
-use Rattle.tag.proofs.tag_of.Reads as tag-of-reads
-use Rattle.wiring.proofs.placed.Reads as placed-reads
 
 is-valid-requires : tie.Need-is-valid-requires
 is-valid-requires c κs = search needs

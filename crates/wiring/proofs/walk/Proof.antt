@@ -1,23 +1,16 @@
+-- `wiring::walk` meets its contract. Assumes nothing.
 use native.Mathlib.Omega.{arith}
 use borrow.Author.Needs.{needs}
-use mathlib.Core.Path.{_≡_, refl, sym, ap, _∙_, subst}
-use mathlib.Core.Bool.{Bool, true, false}
-use Prim.Native.Nat.{ℕ, _≤_, _<_, _-_}
-use lib.ListN.{length, getD}
+use mathlib.Core.Path.{_≡_, refl, sym, ap, subst}
+use Prim.Native.Nat.{_≤_, _<_, _-_}
+use lib.ListN.{getD}
 use borrow.Author.Tests.{not-true, not-false}
-use Rattle.model.specs.View.{placeOf, rows, listOf, listsOf}
-use Rattle.model.proofs.Laws.Rows.{rows-length}
-use Rattle.model.proofs.Laws.Standing.{standing}
+use Rattle.model.specs.View.{rows}
 use Rattle.wiring.specs.declared.Line.{Line}
 use Rattle.wiring.specs.declared.Ended.the-variants.{Clear}
-use Rattle.wiring.specs.Walking.{started, Says, says-clear, says-met, says-gap}
 use Rattle.wiring.proofs.Laws.Line.{Going, Scanning, going-start, going-end, ended-clear, ended-met, ended-gap, first-within, first-met, first-scan, scanning-end, scanning-gap, scanning-next, counted-few, row-below}
 use Rattle.wiring.proofs.walk.Statement.{statement}
 use Rattle.wiring.proofs.walk.Tie as tie
-use Rattle.wiring.proofs.walk.Reads as reads
-use Rattle.wiring.proofs.walk.Lts as lts
-use Rattle.wiring.proofs.joined.Reads as joined-reads
-use Rattle.wiring.proofs.start.Reads as start-reads
 
 abbrev Inv-loop : tie.InvT-loop
 Inv-loop target from m line₀ head end₀ r l n i₀ line end i = Scanning m target from line head r l i × (line .tail ≤ 128) × (i ≤ n) × (end ≡ Clear)
@@ -60,7 +53,7 @@ places-held-requires : tie.Need-places-held-requires Inv-loop μ-loop Inv-walk �
 places-held-requires c κs = search needs
 
 loop-holds : tie.Need-loop-holds Inv-loop μ-loop Inv-walk μ-walk
-loop-holds c = 
+loop-holds c =
     let s = c .before .before .before .before .before .before .before in
     let w = c .before .before .before .before .before .walk in
     (first-scan (s .args .t1) (s .args .target) (s .args .from) (s .pre) (w .line) (w .head) _ (w .inv .0) (c .before .before .before .before .walk-test .taken) (w .inv .1) refl (c .before .before .if1 .left) _, w .inv .1, omega arith, w .inv .2)
@@ -81,7 +74,7 @@ loop-less : tie.Need-loop-less Inv-loop μ-loop Inv-walk μ-walk
 loop-less c = omega arith
 
 loop-again : tie.Need-loop-again Inv-loop μ-loop Inv-walk μ-walk
-loop-again c = 
+loop-again c =
     let s = c .before .before .before .before .before .before .before .before .before .before .before .before .before .before in
     let v = c .before .before .before .before .before .before .loop in
     let x = scanning-next (s .args .t1) (s .args .target) (s .args .from) (s .pre) (v .line) (c .before .before .before .before .before .before .before .before .before .before .before .before .walk .head) _ _ (v .i) (v .inv .0) _ (omega (arith, c .before .before .before .before .before .before .before .places-held .ensures .live, c .before .before .before .before .before .loop-test .taken)) (not-false _ (c .before .before .if2 .left)) (c .joined .result) (c .joined .ensures) in
@@ -94,29 +87,29 @@ walk-less : tie.Need-walk-less Inv-loop μ-loop Inv-walk μ-walk
 walk-less c = omega arith
 
 walk-again : tie.Need-walk-again Inv-loop μ-loop Inv-walk μ-walk
-walk-again c = 
+walk-again c =
     let s = c .before .before .before .before .before .before .before .before .before in
     let v = c .before .loop in
     (scanning-end (s .args .t1) (s .args .target) (s .args .from) (s .pre) (v .line) (c .before .before .before .before .before .before .before .walk .head) _ _ (v .i) (v .inv .0) (omega (arith, c .before .before .places-held .ensures .live, c .loop-test .left)), v .inv .1, v .inv .3)
 
 returns : tie.Need-returns Inv-loop μ-loop Inv-walk μ-walk
-returns c = 
+returns c =
     let s = c .before .before .before in
     let w = c .before .walk in
     ended-clear (s .args .t1) (s .args .target) (s .args .from) (w .inv .2) (going-end (s .args .t1) (s .args .target) (s .args .from) (s .pre) (w .line) (w .head) (w .inv .0) (c .walk-test .left))
 
 returns-2 : tie.Need-returns-2 Inv-loop μ-loop Inv-walk μ-walk
-returns-2 c = 
+returns-2 c =
     let s = c .before .before .before .before .before in
     let w = c .before .before .before .walk in
     ended-met (s .args .t1) (s .args .target) (s .args .from) (first-met (s .args .t1) (s .args .target) (s .args .from) (s .pre) (w .line) (w .head) _ (w .inv .0) (c .before .before .walk-test .taken) (w .inv .1) refl (c .if1 .taken))
 
 returns-3 : tie.Need-returns-3 Inv-loop μ-loop Inv-walk μ-walk
-returns-3 c = 
+returns-3 c =
     let s = c .before .before .before .before .before .before .before .before .before .before .before .before in
     let v = c .before .before .before .before .loop in
     ended-gap (s .args .t1) (s .args .target) (s .args .from) (v .inv .0 .row)
-      (scanning-gap (s .args .t1) (s .args .target) (s .args .from) (s .pre) (v .line) (c .before .before .before .before .before .before .before .before .before .before .walk .head) _ _ (v .i) (v .inv .0) _ (omega (arith, c .before .before .before .before .before .places-held .ensures .live, c .before .before .before .loop-test .taken)) (not-true _ (c .if2 .taken)))
+    (scanning-gap (s .args .t1) (s .args .target) (s .args .from) (s .pre) (v .line) (c .before .before .before .before .before .before .before .before .before .before .walk .head) _ _ (v .i) (v .inv .0) _ (omega (arith, c .before .before .before .before .before .places-held .ensures .live, c .before .before .before .loop-test .taken)) (not-true _ (c .if2 .taken)))
 
 pub walk-spec : {M : Type 1} → statement M
 walk-spec =

@@ -1,13 +1,9 @@
-use native.Mathlib.Omega.{arith}
+-- `wiring::walk_from` meets its contract. Assumes nothing.
 use borrow.Author.Needs.{needs}
 use Rattle.edit.proofs.Laws.Tests.{missing}
 use Rattle.wiring.proofs.Laws.Line.{sought-row, wires-absent, wires-row}
 use Rattle.wiring.proofs.walk_from.Statement.{statement}
 use Rattle.wiring.proofs.walk_from.Tie as tie
-use Rattle.wiring.proofs.walk_from.Reads as reads
-use Rattle.wiring.proofs.walk_from.Lts as lts
-use Rattle.model.proofs.find.find_list.Reads as find-list-reads
-use Rattle.wiring.proofs.walk.Reads as walk-reads
 
 find-list-requires : tie.Need-find-list-requires
 find-list-requires c κs = search needs
