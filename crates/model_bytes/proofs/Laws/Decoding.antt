@@ -18,6 +18,7 @@ use Rattle.model.specs.View.{placeOf, componentOf, componentsOf, listOf, listsO
 use Rattle.model.specs.Reading.{New}
 use Rattle.layout.specs.Words.{word}
 use Rattle.layout.specs.EditRows.{isSome}
+use Rattle.model_bytes.specs.declared.decode.Decoded.{Decoded}
 use Rattle.model_bytes.specs.ModelBytes.{placeIn, rowsIn, headed, entryRow, listRow, joined, modelIn}
 use Rattle.model_bytes.specs.Steps.{Read, Filled}
 use Rattle.model_bytes.specs.Calls.{Decodes}
@@ -110,12 +111,12 @@ model-sized m p q r t u = rw (le-leb (m .«component_count») 64 p, le-leb (m .�
 
 -- ---- what is answered
 
-pub decodes-none : (s : List ℕ) {m : Record} → New m → modelIn s ≡ none → Decodes s (record { ok = false; model = m })
+pub decodes-none : (s : List ℕ) (r : Decoded) → (r .ok ≡ false) × New (r .model) → modelIn s ≡ none → Decodes s r
 unfolding passes
-decodes-none s {m} n e = record {
-  answer = ap isSome (sym e);
-  holds = n .holds ∙ ap (λ (o : Option Model). Option·getD o new) (sym e);
-  sizes = and-left (fits m) (valid (view m)) (n .passing);
+decodes-none s r n e = record {
+  answer = n .0 ∙ ap isSome (sym e);
+  holds = n .1 .holds ∙ ap (λ (o : Option Model). Option·getD o new) (sym e);
+  sizes = and-left (fits (r .model)) (valid (view (r .model))) (n .1 .passing);
 }
 
 module _ (s : List ℕ) (h : headed s ≡ true) {m : Record} where
