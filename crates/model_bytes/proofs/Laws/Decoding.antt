@@ -8,9 +8,6 @@ use lib.Dec.{leb, eqb}
 use lib.ListN.{length}
 use borrow.Author.Tests.{le-leb, lt-leb, eq-eqb, ne-eqb, eqb-true, leb-true}
 use Rattle.component.specs.declared.model_component.Component.{Component}
-use Rattle.model.specs.declared.implicit_model.Place.{Place as PlaceRecord}
-use Rattle.model.specs.declared.implicit_model.ComponentEntry.{ComponentEntry}
-use Rattle.model.specs.declared.implicit_model.InputList.{InputList}
 use Rattle.model.specs.declared.implicit_model.Model.{Model as Record}
 use Rattle.model.specs.Table.{Table}
 use Rattle.model.specs.Model.{Place, Model, new, valid}
@@ -22,7 +19,7 @@ use Rattle.model_bytes.specs.declared.decode.Decoded.{Decoded}
 use Rattle.model_bytes.specs.ModelBytes.{placeIn, rowsIn, headed, entryRow, listRow, joined, modelIn}
 use Rattle.model_bytes.specs.Steps.{Read, Filled}
 use Rattle.model_bytes.specs.Calls.{Decodes}
-use Rattle.model_bytes.proofs.Laws.Tests.{and-left, and-right, and-true, and-false}
+use Rattle.model_bytes.proofs.Laws.Tests.{and-left, and-right, and-false}
 use Rattle.model_bytes.proofs.Laws.Reading.{found, filled}
 
 -- ---- the header
