@@ -1,5 +1,4 @@
 -- Words of components, worked out. Assumes nothing.
-use Prim.Native.Nat.{ℕ}
 use mathlib.Core.Path.{_≡_, refl}
 use lib.Ieee.{nan, toBits, ofBits}
 use Rattle.component.specs.declared.model_component.Component.the-variants.{Add, Lerp}

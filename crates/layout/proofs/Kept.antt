@@ -1,11 +1,11 @@
 -- What a write leaves alone, and reading where two lists of bytes agree. Assumes nothing.
-use mathlib.Core.Path.{_≡_, refl, sym, ap, _∙_}
+use mathlib.Core.Path.{_≡_, refl, sym, _∙_}
 use mathlib.Core.List.{List}
 use Prim.Native.Nat.{ℕ, _+_, _≤_, _<_}
 use native.Mathlib.Omega.{arith}
 use lib.ListN.{length, getD, take, drop, length-take, length-drop}
 use lib.Seq.{ext-getD, getD-take, getD-drop}
-use Rattle.layout.specs.Words.{two, four, word}
+use Rattle.layout.specs.Words.{four, word}
 use Rattle.layout.specs.Writing.{Kept}
 
 pub kept-none : (s : List ℕ) (i n : ℕ) → Kept s s i n
@@ -19,9 +19,6 @@ kept-then a z p q e f g h = record {
   above = λ k l. q .above k (omega arith) ∙ p .above k (omega arith);
 }
 
-pub kept-within : {s t : List ℕ} {i n : ℕ} (a z : ℕ) → Kept s t i n → a ≤ i → i + n ≤ a + z → Kept s t a z
-kept-within a z p e f = record { size = p .size; below = λ k l. p .below k (omega arith); above = λ k l. p .above k (omega arith) }
-
 -- t is s at the n bytes from i on
 pub record Agree (s t : List ℕ) (i n : ℕ) : Type 0 where
   pub size : length t ≡ length s
@@ -29,12 +26,6 @@ pub record Agree (s t : List ℕ) (i n : ℕ) : Type 0 where
 
 pub agree-below : {s t : List ℕ} {j m : ℕ} (i n : ℕ) → Kept s t j m → i + n ≤ j → Agree s t i n
 agree-below i n p h = record { size = p .size; same = λ k a b. p .below k (omega arith) }
-
-pub agree-above : {s t : List ℕ} {j m : ℕ} (i n : ℕ) → Kept s t j m → j + m ≤ i → Agree s t i n
-agree-above i n p h = record { size = p .size; same = λ k a b. p .above k (omega arith) }
-
-pub agree-then : {s t u : List ℕ} {i n : ℕ} → Agree s t i n → Agree t u i n → Agree s u i n
-agree-then p q = record { size = q .size ∙ p .size; same = λ k a b. q .same k a b ∙ p .same k a b }
 
 pub agree-within : {s t : List ℕ} {i n : ℕ} (j m : ℕ) → Agree s t i n → i ≤ j → j + m ≤ i + n → Agree s t j m
 agree-within j m p g h = record { size = p .size; same = λ k a b. p .same k (omega arith) (omega arith) }

@@ -1,12 +1,11 @@
 -- A component is read back from its numbers and from its words. Assumes nothing.
 use Prim.Native.Nat.{ℕ}
-use mathlib.Core.Path.{_≡_, refl, sym, ap, subst, _∙_}
+use mathlib.Core.Path.{_≡_, refl, ap, _∙_}
 use mathlib.Core.Option.{some}
 use lib.Ieee.{Float, binary64, ofBits, toBits}
 use Rattle.component.specs.declared.model_component.Component.{Component}
 use Rattle.component.specs.declared.model_component.Component.the-variants.{Constant, Sphere, Torus, Multiply, Add, Subtract, Divide, Lerp, VariableLerp, Remap, BooleanUnion, BooleanIntersection, BooleanDifference, Offset, Thickness}
 use Rattle.layout.specs.declared.component_numbers.Numbers.{Numbers}
-use Rattle.layout.specs.declared.component_numbers.ComponentWords.{ComponentWords}
 use Rattle.layout.specs.Components.{componentOf, componentFrom}
 use Rattle.layout.specs.Numbers.{numbersOf, wordsFor, wordsOf, Worded}
 

@@ -2,15 +2,15 @@
 use mathlib.Core.Path.{_≡_, refl, sym, ap, subst, _∙_}
 use mathlib.Core.Bool.{Bool, cond}
 use mathlib.Core.List.{List, [], _∷_, _++_, append-assoc}
-use Prim.Native.Nat.{ℕ, zero, suc, _+_, _*_, _-_, _/_, _%_, _≤_, _<_}
+use Prim.Native.Nat.{ℕ, _+_, _*_, _-_, _/_, _%_, _≤_, _<_}
 use native.Mathlib.Nat.{add-assoc, add-zero}
 use native.Mathlib.Numerals.{add-one}
 use native.Mathlib.Omega.{arith}
 use lib.ListN.{length, getD, take, drop, set, length-append, length-drop, List·getD-append}
 use lib.Seq.{take-at, drop-at, drop-drop, length-take-le, sets-eq, getD-append-add, getD-take, getD-drop}
 use borrow.Author.Tests.{le-leb, lt-leb}
-use Rattle.layout.specs.Words.{two, four, word}
-use Rattle.layout.specs.Writing.{bytes2, bytes4, bytes8, put, putWord, Kept}
+use Rattle.layout.specs.Words.{four, word}
+use Rattle.layout.specs.Writing.{bytes4, bytes8, put, putWord, Kept}
 
 module _ (s : List ℕ) (i : ℕ) (vs : List ℕ) (fits : i + length vs ≤ length s) where
   put-front : length (take i s ++ vs) ≡ i + length vs

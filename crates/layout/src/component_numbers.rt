@@ -1,7 +1,6 @@
 // A component as its kind and five numbers, and as six words: what `component_words` reads.
 use component::model_component::Component;
 ghost use mathlib.Core.Path.{_≡_};
-ghost use mathlib.Core.Option.{some};
 ghost use lib.Ieee as Ieee;
 ghost use lib.Ieee.{binary64};
 ghost use Rattle.layout.specs.Numbers.{numbersOf, Worded};

@@ -16,6 +16,7 @@ ghost use Prim.Native.Nat.{_+_, _-_, _≤_};
 ghost use lib.ListN.{length, take, drop};
 ghost use Rattle.tag.specs.View.{bytesOf, tagFits};
 ghost use Rattle.model.specs.View.{placeOf, placeFits, componentOf, entryFits, listOf, listFits};
+ghost use Rattle.model.specs.Reading.{New};
 ghost use Rattle.layout.specs.Components.{componentRead};
 ghost use Rattle.model_bytes.specs.ModelBytes.{blank, textIn, tagIn, placeIn, sixIn, sameWords, componentIn, rowsIn, entryIn, placeRow, listIn, headed, entryRow, listRow};
 ghost use Rattle.model_bytes.specs.Steps.{Read, Filled};
@@ -334,12 +335,14 @@ fn read_list(s: &[u8], at: usize) -> ListRead
     }
 }
 
-// The first n components, into a table.
-fn read_components(s: &[u8], n: usize, table: [ComponentEntry; 64]) -> ComponentsRead
+// The first n components.
+fn read_components(s: &[u8], n: usize) -> ComponentsRead
     requires { ⌜ (n ≤ 64) × (length (now s) ≡ 27200) ⌝ }
     ensures { λ r. ⌜ Filled componentOf entryFits (rowsIn (entryRow (now (s .entry))) n) n (r .ok) (r .table) ⌝ }
 {
-    let mut entries = table;
+    let none = no_entry();
+    let unused = none.entry;
+    let mut entries = [unused; 64];
     let mut i: usize = 0;
     while i < n {
         let read = read_entry(s, 64 + 88 * i);
@@ -359,12 +362,14 @@ fn read_components(s: &[u8], n: usize, table: [ComponentEntry; 64]) -> Component
     }
 }
 
-// The first n input lists, into a table.
-fn read_lists(s: &[u8], n: usize, table: [InputList; 128]) -> ListsRead
+// The first n input lists.
+fn read_lists(s: &[u8], n: usize) -> ListsRead
     requires { ⌜ (n ≤ 128) × (length (now s) ≡ 27200) ⌝ }
     ensures { λ r. ⌜ Filled listOf listFits (rowsIn (listRow (now (s .entry))) n) n (r .ok) (r .table) ⌝ }
 {
-    let mut lists = table;
+    let none = no_list();
+    let unused = none.list;
+    let mut lists = [unused; 128];
     let mut i: usize = 0;
     while i < n {
         let read = read_list(s, 5696 + 168 * i);
@@ -400,41 +405,36 @@ fn is_headed(s: &[u8]) -> bool
     read_word(s, 16) <= 128
 }
 
+fn no_model() -> Decoded
+    ensures { λ r. ⌜ (r .ok ≡ false) × New (r .model) ⌝ }
+{
+    let m = model::reading::new();
+    Decoded {
+        ok: false,
+        model: m,
+    }
+}
+
 // The model that the bytes hold; a new one, and not ok, where they hold none.
 pub fn decode(bytes: &[u8]) -> Decoded
     ensures { λ r. ⌜ Decodes (now (bytes .entry)) r ⌝ }
 {
-    let m = model::reading::new();
     if !is_headed(bytes) {
-        return Decoded {
-            ok: false,
-            model: m,
-        };
+        return no_model();
     }
     let n = read_word(bytes, 8) as usize;
     let k = read_word(bytes, 16) as usize;
     let default = read_place(bytes, 24);
-    let entries = m.components;
-    let components = read_components(bytes, n, entries);
-    let rows = m.lists;
-    let lists = read_lists(bytes, k, rows);
     if !default.ok {
-        return Decoded {
-            ok: false,
-            model: m,
-        };
+        return no_model();
     }
+    let components = read_components(bytes, n);
     if !components.ok {
-        return Decoded {
-            ok: false,
-            model: m,
-        };
+        return no_model();
     }
+    let lists = read_lists(bytes, k);
     if !lists.ok {
-        return Decoded {
-            ok: false,
-            model: m,
-        };
+        return no_model();
     }
     let entries = components.table;
     let rows = lists.table;

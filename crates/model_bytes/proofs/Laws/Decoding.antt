@@ -8,9 +8,6 @@ use lib.Dec.{leb, eqb}
 use lib.ListN.{length}
 use borrow.Author.Tests.{le-leb, lt-leb, eq-eqb, ne-eqb, eqb-true, leb-true}
 use Rattle.component.specs.declared.model_component.Component.{Component}
-use Rattle.model.specs.declared.implicit_model.Place.{Place as PlaceRecord}
-use Rattle.model.specs.declared.implicit_model.ComponentEntry.{ComponentEntry}
-use Rattle.model.specs.declared.implicit_model.InputList.{InputList}
 use Rattle.model.specs.declared.implicit_model.Model.{Model as Record}
 use Rattle.model.specs.Table.{Table}
 use Rattle.model.specs.Model.{Place, Model, new, valid}
@@ -18,10 +15,11 @@ use Rattle.model.specs.View.{placeOf, componentOf, componentsOf, listOf, listsO
 use Rattle.model.specs.Reading.{New}
 use Rattle.layout.specs.Words.{word}
 use Rattle.layout.specs.EditRows.{isSome}
+use Rattle.model_bytes.specs.declared.decode.Decoded.{Decoded}
 use Rattle.model_bytes.specs.ModelBytes.{placeIn, rowsIn, headed, entryRow, listRow, joined, modelIn}
 use Rattle.model_bytes.specs.Steps.{Read, Filled}
 use Rattle.model_bytes.specs.Calls.{Decodes}
-use Rattle.model_bytes.proofs.Laws.Tests.{and-left, and-right, and-true, and-false}
+use Rattle.model_bytes.proofs.Laws.Tests.{and-left, and-right, and-false}
 use Rattle.model_bytes.proofs.Laws.Reading.{found, filled}
 
 -- ---- the header
@@ -110,12 +108,12 @@ model-sized m p q r t u = rw (le-leb (m .«component_count») 64 p, le-leb (m .�
 
 -- ---- what is answered
 
-pub decodes-none : (s : List ℕ) {m : Record} → New m → modelIn s ≡ none → Decodes s (record { ok = false; model = m })
+pub decodes-none : (s : List ℕ) (r : Decoded) → (r .ok ≡ false) × New (r .model) → modelIn s ≡ none → Decodes s r
 unfolding passes
-decodes-none s {m} n e = record {
-  answer = ap isSome (sym e);
-  holds = n .holds ∙ ap (λ (o : Option Model). Option·getD o new) (sym e);
-  sizes = and-left (fits m) (valid (view m)) (n .passing);
+decodes-none s r n e = record {
+  answer = n .0 ∙ ap isSome (sym e);
+  holds = n .1 .holds ∙ ap (λ (o : Option Model). Option·getD o new) (sym e);
+  sizes = and-left (fits (r .model)) (valid (view (r .model))) (n .1 .passing);
 }
 
 module _ (s : List ℕ) (h : headed s ≡ true) {m : Record} where

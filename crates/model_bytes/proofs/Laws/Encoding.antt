@@ -1,19 +1,19 @@
 -- The model that is read where a model was written. Assumes nothing.
-use Prim.Native.Nat.{ℕ, _+_, _*_, _≤_, _<_}
-use mathlib.Core.Path.{_≡_, refl, sym, ap, subst, _∙_}
+use Prim.Native.Nat.{ℕ, _+_, _*_}
+use mathlib.Core.Path.{_≡_, refl, sym, ap, _∙_}
 use mathlib.Core.Bool.{Bool, true, false, _&&_}
 use mathlib.Core.List.{List}
 use mathlib.Core.Option.{some}
 use native.Mathlib.Omega.{arith}
-use lib.Dec.{leb, eqb}
-use lib.ListN.{length, getD}
+use lib.Dec.{eqb}
+use lib.ListN.{length}
 use borrow.Author.Tests.{le-leb, eq-eqb, ne-eqb}
 use Rattle.model.specs.declared.implicit_model.Place.{Place as PlaceRecord}
 use Rattle.model.specs.declared.implicit_model.Model.{Model as Record}
-use Rattle.model.specs.View.{placeOf, componentOf, componentsOf, listOf, listsOf, rows, view, fits}
+use Rattle.model.specs.View.{placeOf, componentsOf, listsOf, view, fits}
 use Rattle.layout.specs.Words.{word}
 use Rattle.layout.specs.Writing.{Kept}
-use Rattle.layout.proofs.Kept.{kept-none, kept-then, agree-below, agree-above, agree-then, word-same}
+use Rattle.layout.proofs.Kept.{kept-then, agree-below}
 use Rattle.model_bytes.specs.ModelBytes.{placeIn, rowsIn, headed, entryRow, listRow, modelIn}
 use Rattle.model_bytes.specs.Steps.{Wrote, Header}
 use Rattle.model_bytes.specs.Calls.{Spares, Encodes}

@@ -1,20 +1,17 @@
 -- What is read at a place depends on its own bytes alone. Assumes nothing.
 use Prim.Native.Nat.{ℕ, zero, suc, _+_, _*_, _-_, _≤_, _<_}
-use mathlib.Core.Path.{_≡_, refl, sym, ap, _∙_}
+use mathlib.Core.Path.{_≡_, refl, ap, _∙_}
 use mathlib.Core.Bool.{Bool, true, false, _&&_, cond}
 use mathlib.Core.List.{List}
 use mathlib.Core.Option.{Option, none, some, Option·map}
 use native.Mathlib.Omega.{arith}
 use lib.Dec.{leb, eqb}
-use lib.ListN.{length, getD, take, drop}
+use lib.ListN.{getD}
 use borrow.Author.Tests.{leb-true}
 use Rattle.tag.specs.Tags.{Tag}
-use Rattle.component.specs.declared.model_component.Component.{Component}
-use Rattle.model.specs.Model.{Place}
 use Rattle.layout.specs.Words.{word}
-use Rattle.layout.specs.declared.component_numbers.ComponentWords.{ComponentWords}
 use Rattle.layout.proofs.Kept.{Agree, agree-within, word-same, bytes-same}
-use Rattle.model_bytes.specs.ModelBytes.{blank, textIn, tagIn, placeFrom, placeIn, sixIn, componentOfWords, componentIn, both, append, rowsIn, entryIn, placeRow, placesIn, listIn, entryRow, listRow}
+use Rattle.model_bytes.specs.ModelBytes.{blank, textIn, tagIn, placeFrom, placeIn, sixIn, componentOfWords, componentIn, both, append, rowsIn, entryIn, placeRow, placesIn, listIn}
 
 pub blank-local : {s t : List ℕ} {at : ℕ} (n : ℕ) → Agree s t at n → blank t at n ≡ blank s at n
 unfolding blank

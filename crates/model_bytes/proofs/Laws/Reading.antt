@@ -8,7 +8,7 @@ use mathlib.Core.Option.{Option, none, some, Option·map}
 use native.Mathlib.Nat.{eq-or-lt-of-le, le-of-suc-le-suc}
 use native.Mathlib.Numerals.{add-one}
 use native.Mathlib.Omega.{arith}
-use lib.Dec.{leb, eqb}
+use lib.Dec.{eqb}
 use lib.ListN.{length, getD, take, drop, set, length-drop}
 use lib.Seq.{take-suc, take-suc-set, take-take, getD-drop}
 use borrow.Author.Tests.{le-leb, lt-leb, eq-eqb, ne-eqb}
@@ -16,11 +16,9 @@ use Rattle.tag.specs.declared.Tag.{Tag as Label}
 use Rattle.tag.specs.Tags.{Tag}
 use Rattle.tag.specs.View.{bytesOf, tagFits}
 use Rattle.component.specs.declared.model_component.Component.{Component}
-use Rattle.model.specs.declared.implicit_model.Place.{Place as PlaceRecord}
-use Rattle.model.specs.declared.implicit_model.ComponentEntry.{ComponentEntry}
 use Rattle.model.specs.declared.implicit_model.InputList.{InputList}
 use Rattle.model.specs.Model.{Place}
-use Rattle.model.specs.View.{rows, every, placeOf, placeFits, componentOf, entryFits, listOf, listFits}
+use Rattle.model.specs.View.{rows, every, placeOf, placeFits, listFits}
 use Rattle.model.proofs.Laws.Rows.{rows-more}
 use Rattle.layout.specs.Words.{word}
 use Rattle.layout.specs.Components.{componentFrom}

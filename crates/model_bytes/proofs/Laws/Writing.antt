@@ -1,38 +1,34 @@
 -- What is written at a place, and rows that are written one after another. Assumes nothing.
 use Prim.Native.Nat.{ℕ, zero, suc, _+_, _*_, _-_, _≤_, _<_}
 use mathlib.Core.Path.{_≡_, refl, sym, ap, subst, _∙_}
-use mathlib.Core.Bool.{Bool, true, false, _&&_, cond}
+use mathlib.Core.Bool.{Bool, true, false, cond}
 use mathlib.Core.List.{List, [], _∷_, _++_}
 use mathlib.Core.Option.{Option, none, some, Option·map}
 use native.Mathlib.Nat.{not-suc-le-zero, le-of-suc-le-suc}
 use native.Mathlib.Numerals.{add-one}
 use native.Mathlib.Omega.{arith}
-use lib.Dec.{leb, eqb}
 use lib.ListN.{length, getD, take, drop, set, length-set, length-drop}
 use lib.Seq.{take-suc, getD-drop, getD-set-same, getD-set-other, set-getD}
-use borrow.Author.Tests.{le-leb, leb-true, eq-eqb}
+use borrow.Author.Tests.{leb-true, eq-eqb}
 use Rattle.tag.specs.declared.Tag.{Tag as Label}
-use Rattle.tag.specs.Tags.{Tag}
 use Rattle.tag.specs.View.{bytesOf, tagFits}
 use Rattle.component.specs.declared.model_component.Component.{Component}
 use Rattle.model.specs.declared.implicit_model.Place.{Place as PlaceRecord}
 use Rattle.model.specs.declared.implicit_model.ComponentEntry.{ComponentEntry}
 use Rattle.model.specs.declared.implicit_model.InputList.{InputList}
-use Rattle.model.specs.Model.{Place}
-use Rattle.model.specs.View.{rows, every, placeOf, placeFits, componentOf, entryFits, listOf, listFits}
+use Rattle.model.specs.View.{rows, every, placeOf, placeFits, componentOf, listOf}
 use Rattle.model.proofs.Laws.Rows.{no-place, no-entry, no-list, rows-length, rows-at, rows-more}
 use Rattle.layout.specs.Words.{word}
 use Rattle.layout.specs.Writing.{Kept, putWord}
-use Rattle.layout.specs.Components.{componentFrom}
 use Rattle.layout.specs.declared.component_numbers.ComponentWords.{ComponentWords}
-use Rattle.layout.specs.Numbers.{wordsOf, Worded}
+use Rattle.layout.specs.Numbers.{Worded}
 use Rattle.layout.proofs.Put.{word-kept, word-back}
-use Rattle.layout.proofs.Kept.{kept-none, kept-then, kept-within, Agree, agree-below, agree-above, agree-within, word-same, bytes-same}
-use Rattle.model_bytes.specs.ModelBytes.{blank, textIn, tagIn, placeFrom, placeIn, sixIn, sameWords, spelled, componentOfWords, componentIn, rowsIn, entryIn, placeRow, placesIn, listIn, entryRow, listRow}
+use Rattle.layout.proofs.Kept.{kept-none, kept-then, Agree, agree-below, word-same, bytes-same}
+use Rattle.model_bytes.specs.ModelBytes.{blank, textIn, tagIn, placeFrom, placeIn, sixIn, sameWords, spelled, componentOfWords, componentIn, rowsIn, entryIn, placeRow, listIn, entryRow, listRow}
 use Rattle.model_bytes.specs.Steps.{Wrote}
-use Rattle.model_bytes.proofs.Laws.Tests.{and-left, and-right, and-true}
+use Rattle.model_bytes.proofs.Laws.Tests.{and-left, and-right}
 use Rattle.model_bytes.proofs.Laws.Reading.{blank-more, text-clean, rows-append, entry-is, list-is}
-use Rattle.model_bytes.proofs.Laws.Local.{blank-local, text-local, tag-local, place-local, component-local, rows-local, entry-local, list-local}
+use Rattle.model_bytes.proofs.Laws.Local.{blank-local, tag-local, place-local, rows-local, entry-local, list-local}
 
 -- ---- a byte after others
 

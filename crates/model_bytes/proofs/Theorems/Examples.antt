@@ -1,7 +1,6 @@
 -- The bytes of a new model: the version, and 0. Assumes nothing.
-use Prim.Native.Nat.{ℕ}
 use mathlib.Core.Path.{_≡_, refl}
-use mathlib.Core.List.{List, _∷_}
+use mathlib.Core.List.{_∷_}
 use mathlib.Core.Option.{some}
 use lib.ListN.{replicate}
 use Rattle.model.specs.Model.{new}

@@ -1,7 +1,7 @@
 -- The round trip, from the contracts alone: what is encoded decodes to the same view, and what decodes encodes to bytes that decode to it. Assumes nothing.
 use Prim.Native.Nat.{ℕ}
 use mathlib.Core.Path.{_≡_, refl, sym, ap, _∙_}
-use mathlib.Core.Bool.{Bool, true, false}
+use mathlib.Core.Bool.{Bool, true}
 use mathlib.Core.List.{List}
 use mathlib.Core.Option.{Option, none, some, Option·getD}
 use lib.ListN.{length}

@@ -1,6 +1,6 @@
 -- `read_components` meets its contract. Assumes nothing.
 use Prim.Native.Nat.{_-_, _≤_}
-use mathlib.Core.Path.{_≡_}
+use mathlib.Core.Path.{_≡_, refl}
 use native.Mathlib.Omega.{arith}
 use borrow.Author.Needs.{needs}
 use borrow.Author.Tests.{not-true, not-false}
@@ -17,8 +17,11 @@ Inv-loop s n entries₀ i₀ entries i = (i ≤ n) × (length entries ≡ 64) ×
 abbrev μ-loop : tie.MeasureT-loop
 μ-loop s n entries₀ i₀ entries i = n - i
 
+no-entry-requires : tie.Need-no-entry-requires Inv-loop μ-loop
+no-entry-requires c κs = search needs
+
 loop-holds : tie.Need-loop-holds Inv-loop μ-loop
-loop-holds c = (omega arith, c .before .good .1 .1 .0 .1 .0 .1, sofar-none componentOf entryFits _ _)
+loop-holds c = (omega arith, refl, sofar-none componentOf entryFits _ _)
 
 mul-read-entry : tie.Need-mul-read-entry Inv-loop μ-loop
 mul-read-entry c = search needs
@@ -47,11 +50,11 @@ loop-less c = search needs
 
 loop-again : tie.Need-loop-again Inv-loop μ-loop
 loop-again c =
-    (omega arith, simp length-set (c .before .before .before .before .before .loop .inv .1), sofar-more componentOf entryFits _ (c .before .before .before .before .before .loop .inv .2) (omega (arith, c .before .before .before .before .before .loop .inv .1, c .before .before .before .before .loop-test .taken, c .before .before .before .before .before .before .before .pre .0)) (c .before .before .before .read-entry .ensures) (not-false _ (c .before .if1 .left)))
+    (omega arith, simp length-set (c .before .before .before .before .before .loop .inv .1), sofar-more componentOf entryFits _ (c .before .before .before .before .before .loop .inv .2) (omega (arith, c .before .before .before .before .before .loop .inv .1, c .before .before .before .before .loop-test .taken, c .before .before .before .before .before .before .before .before .before .pre .0)) (c .before .before .before .read-entry .ensures) (not-false _ (c .before .if1 .left)))
 
 returns-2 : tie.Need-returns-2 Inv-loop μ-loop
 returns-2 c =
-    sofar-all componentOf entryFits _ (c .before .loop .inv .2) (let z : c .before .loop .i ≡ c .before .before .before .args .n = omega arith in z)
+    sofar-all componentOf entryFits _ (c .before .loop .inv .2) (let z : c .before .loop .i ≡ c .before .before .before .before .before .args .n = omega arith in z)
 
 pub read-components-spec : {M : Type 1} → statement M
-read-components-spec = tie.close (tie.spec Inv-loop μ-loop loop-holds mul-read-entry add-read-entry read-entry-requires returns mul-entries array-set-from-entries add-i loop-less loop-again returns-2)
+read-components-spec = tie.close (tie.spec Inv-loop μ-loop no-entry-requires loop-holds mul-read-entry add-read-entry read-entry-requires returns mul-entries array-set-from-entries add-i loop-less loop-again returns-2)

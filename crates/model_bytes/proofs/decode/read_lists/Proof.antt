@@ -1,6 +1,6 @@
 -- `read_lists` meets its contract. Assumes nothing.
 use Prim.Native.Nat.{_-_, _≤_}
-use mathlib.Core.Path.{_≡_}
+use mathlib.Core.Path.{_≡_, refl}
 use native.Mathlib.Omega.{arith}
 use borrow.Author.Needs.{needs}
 use borrow.Author.Tests.{not-true, not-false}
@@ -17,8 +17,11 @@ Inv-loop s n lists₀ i₀ lists i = (i ≤ n) × (length lists ≡ 128) × Sofa
 abbrev μ-loop : tie.MeasureT-loop
 μ-loop s n lists₀ i₀ lists i = n - i
 
+no-list-requires : tie.Need-no-list-requires Inv-loop μ-loop
+no-list-requires c κs = search needs
+
 loop-holds : tie.Need-loop-holds Inv-loop μ-loop
-loop-holds c = (omega arith, c .before .good .1 .1 .0 .1 .0 .1, sofar-none listOf listFits _ _)
+loop-holds c = (omega arith, refl, sofar-none listOf listFits _ _)
 
 mul-read-list : tie.Need-mul-read-list Inv-loop μ-loop
 mul-read-list c = search needs
@@ -47,11 +50,11 @@ loop-less c = search needs
 
 loop-again : tie.Need-loop-again Inv-loop μ-loop
 loop-again c =
-    (omega arith, simp length-set (c .before .before .before .before .before .loop .inv .1), sofar-more listOf listFits _ (c .before .before .before .before .before .loop .inv .2) (omega (arith, c .before .before .before .before .before .loop .inv .1, c .before .before .before .before .loop-test .taken, c .before .before .before .before .before .before .before .pre .0)) (c .before .before .before .read-list .ensures) (not-false _ (c .before .if1 .left)))
+    (omega arith, simp length-set (c .before .before .before .before .before .loop .inv .1), sofar-more listOf listFits _ (c .before .before .before .before .before .loop .inv .2) (omega (arith, c .before .before .before .before .before .loop .inv .1, c .before .before .before .before .loop-test .taken, c .before .before .before .before .before .before .before .before .before .pre .0)) (c .before .before .before .read-list .ensures) (not-false _ (c .before .if1 .left)))
 
 returns-2 : tie.Need-returns-2 Inv-loop μ-loop
 returns-2 c =
-    sofar-all listOf listFits _ (c .before .loop .inv .2) (let z : c .before .loop .i ≡ c .before .before .before .args .n = omega arith in z)
+    sofar-all listOf listFits _ (c .before .loop .inv .2) (let z : c .before .loop .i ≡ c .before .before .before .before .before .args .n = omega arith in z)
 
 pub read-lists-spec : {M : Type 1} → statement M
-read-lists-spec = tie.close (tie.spec Inv-loop μ-loop loop-holds mul-read-list add-read-list read-list-requires returns mul-lists array-set-from-lists add-i loop-less loop-again returns-2)
+read-lists-spec = tie.close (tie.spec Inv-loop μ-loop no-list-requires loop-holds mul-read-list add-read-list read-list-requires returns mul-lists array-set-from-lists add-i loop-less loop-again returns-2)
