@@ -71,7 +71,7 @@ fn absent_turn(b: Best, s: Slot, v: usize, mark: u8) -> Best
 }
 
 // The least tag without a component that a marked list shows: its own, or one in its places.
-pub fn least_absent(m: Model, found: &[usize; 512], seen: &[u8; 192]) -> Best
+pub(crate) fn least_absent(m: Model, found: &[usize; 512], seen: &[u8; 192]) -> Best
     requires { ⌜ (passes m ≡ true) × (Resolved no-list m (now found)) × Owned (now found) (min (m .«list_count») 128) ⌝ }
     ensures { λ r. ⌜ LeastOf (AbsentShown no-list m (now (found .entry)) (now (seen .entry)) (slots m)) r ⌝ }
 {
@@ -108,7 +108,7 @@ fn gap_turn(b: Best, t: Tag, p: usize, q: usize, r: usize, mark: u8) -> Best
 }
 
 // The least tag of a marked list with a gap, and the lowest index.
-pub fn least_gap(m: Model, found: &[usize; 512], seen: &[u8; 192]) -> Best
+pub(crate) fn least_gap(m: Model, found: &[usize; 512], seen: &[u8; 192]) -> Best
     requires { ⌜ (passes m ≡ true) × (Resolved no-list m (now found)) × Owned (now found) (min (m .«list_count») 128) ⌝ }
     ensures { λ r. ⌜ LeastOf (GapShown no-list m (now (found .entry)) (now (seen .entry)) (min (m .«list_count») 128)) r ⌝ }
 {

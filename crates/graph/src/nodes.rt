@@ -64,7 +64,13 @@ pub struct Laying {
 }
 
 // The first n, which are the reach of t, inputs ahead of users; or that t closes a cycle.
-pub fn lay(w: &[usize; 576], line: &[usize; 192], n: usize, seen: &[u8; 192], t: usize) -> Laying
+pub(crate) fn lay(
+    w: &[usize; 576],
+    line: &[usize; 192],
+    n: usize,
+    seen: &[u8; 192],
+    t: usize,
+) -> Laying
     requires { ⌜ (t < 192) × IsReach (now w) t (now line) n (now seen) ⌝ }
     ensures { λ r. ⌜ Ordered (now (w .entry)) t (r .at) (r .n) (r .done) ⌝ }
 {
@@ -114,7 +120,7 @@ pub struct Line {
 }
 
 // The reach of t: a line of nodes, each met once, whose inputs join at its turn.
-pub fn reach(w: &[usize; 576], t: usize) -> Line
+pub(crate) fn reach(w: &[usize; 576], t: usize) -> Line
     requires { ⌜ t < 192 ⌝ }
     ensures { λ r. ⌜ IsReach (now (w .entry)) t (r .at) (r .n) (r .seen) ⌝ }
 {
@@ -157,7 +163,7 @@ fn is_whole(w: &[usize; 576], i: usize) -> bool
 }
 
 // Whether the first n are components whose places are filled: then there is nothing to look for behind 12 and 13.
-pub fn all_whole(w: &[usize; 576], at: &[usize; 192], n: usize, seen: &[u8; 192]) -> bool
+pub(crate) fn all_whole(w: &[usize; 576], at: &[usize; 192], n: usize, seen: &[u8; 192]) -> bool
     requires { ⌜ Listed (now at) n (now seen) ⌝ }
     ensures { λ r. ⌜ Whole (now (w .entry)) (now (at .entry)) n r ⌝ }
 {

@@ -126,7 +126,7 @@ fn settle(s: Slot, u: Tag, c: usize, held: usize) -> usize
 }
 
 // The node of a tag, by a guess where that holds.
-pub fn target_node(m: Model, keys: &[u64; 64], t: Tag) -> usize
+pub(crate) fn target_node(m: Model, keys: &[u64; 64], t: Tag) -> usize
     requires { ⌜ passes m ≡ true ⌝ }
     ensures { λ r. ⌜ r ≡ nodeOf m (bytesOf t) ⌝ }
 {
@@ -142,7 +142,7 @@ pub fn target_node(m: Model, keys: &[u64; 64], t: Tag) -> usize
 }
 
 // The numbers of all slots of the lists, four to a list.
-pub fn resolve(m: Model, keys: &[u64; 64]) -> [usize; 512]
+pub(crate) fn resolve(m: Model, keys: &[u64; 64]) -> [usize; 512]
     requires { ⌜ passes m ≡ true ⌝ }
     ensures { λ r. ⌜ Resolved no-list m r ⌝ }
 {
@@ -168,7 +168,7 @@ pub fn resolve(m: Model, keys: &[u64; 64]) -> [usize; 512]
 }
 
 // Three entries for each node: the places of its list.
-pub fn wires(found: &[usize; 512], n: usize) -> [usize; 576]
+pub(crate) fn wires(found: &[usize; 512], n: usize) -> [usize; 576]
     requires { ⌜ Owned (now found) n ⌝ }
     ensures { λ r. ⌜ Wired (now (found .entry)) n r ⌝ }
 {
