@@ -229,10 +229,11 @@ pub fn add_operation(
         return edit::refuse(m, ModelError::DuplicateTag, t, 0);
     }
     let k = component::model_component::input_count(c);
+    let room = m.component_count < 64;
     if !inputs_fit(given, n, k) {
         return edit::refuse(m, ModelError::IncorrectInputCount, t, 0);
     }
-    if 64 <= m.component_count {
+    if !room {
         return edit::refuse_plain(m, ModelError::ComponentsFull);
     }
     let g = model::find::find_list(m, t);

@@ -10,10 +10,12 @@ ghost use mathlib.Core.Path.{_≡_};
 ghost use Prim.Native.Nat.{_<_};
 ghost use Rattle.tag.specs.View.{bytesOf};
 ghost use Rattle.model.specs.View.{listsOf};
-ghost use Rattle.model.specs.Edit.{addInput, removeInput};
+ghost use Rattle.model.specs.Edit.{addInput, removeInput, done};
 ghost use Rattle.edit.specs.Meets.{Meets};
+ghost use Rattle.edit.specs.Ends.{Ends};
+ghost use Rattle.edit.specs.Rows.{withList};
 ghost use Rattle.wiring.specs.Walking.{started, Counted, Joined, Walkable, Walks, Startable, Wires};
-ghost use Rattle.wiring.specs.Placing.{placedAt};
+ghost use Rattle.wiring.specs.Placing.{placedAt, naming};
 
 // The rows of the lists that have been in line, in their sequence, and a mark for each.
 pub struct Line {
@@ -117,6 +119,19 @@ fn placed(l: InputList, i: usize, p: Place) -> InputList
     k
 }
 
+// The edit is done: the list at a row now names the tag at one place.
+fn wire(m: Model, i: usize, l: InputList, index: usize, s: Tag) -> Edited
+    requires { ⌜ index < 3 ⌝ }
+    ensures { λ r. ⌜ Ends done (withList m i (placedAt l index (naming s))) r ⌝ }
+{
+    let p = Place {
+        assigned: true,
+        tag: s,
+    };
+    let k = placed(l, index, p);
+    edit::done(edit::rows::with_list(m, i, k))
+}
+
 pub fn remove_input(m: Model, tag: &[u8], index: usize) -> Edited
     ensures { λ r. ⌜ Meets (removeInput (now (tag .entry)) index) m r ⌝ }
 {
@@ -183,13 +198,6 @@ pub fn add_input(m: Model, target: &[u8], source: &[u8], index: usize) -> Edited
             let u = o.tag;
             edit::refuse(m, ModelError::MissingInput, u, k)
         }
-        Ended::Clear => {
-            let p = Place {
-                assigned: true,
-                tag: s,
-            };
-            let k = placed(l, index, p);
-            edit::done(edit::rows::with_list(m, i, k))
-        }
+        Ended::Clear => wire(m, i, l, index, s),
     }
 }

@@ -1,14 +1,9 @@
 -- `wiring::add_input` meets its contract. Assumes nothing.
 use native.Mathlib.Omega.{arith}
 use borrow.Author.Needs.{needs}
-use mathlib.Core.Path.{sym, ap, _∙_, subst}
+use mathlib.Core.Path.{sym, _∙_}
 use borrow.Author.Tests.{not-true, not-false}
-use Rattle.model.specs.declared.implicit_model.InputList.{InputList}
-use Rattle.model.specs.declared.implicit_model.Model.{Model as Record}
-use Rattle.model.specs.Edit.{done}
 use Rattle.model.proofs.Laws.Rows.{no-list}
-use Rattle.edit.specs.Ends.{Ends}
-use Rattle.edit.specs.Rows.{withList}
 use Rattle.edit.proofs.Laws.Step.{meets-7}
 use Rattle.wiring.proofs.Laws.Line.{sought-row}
 use Rattle.wiring.proofs.Laws.Wiring.{add-1, add-1-source, add-12, add-12-source, add-12-list, add-3, add-14, add-13, add-done, gap-below}
@@ -126,14 +121,8 @@ refuse-requires-6 c κs = search needs
 enum-told-7 : tie.Need-enum-told-7
 enum-told-7 c = search needs
 
-placed-requires : tie.Need-placed-requires
-placed-requires c κs = omega (arith, c .before .before .before .before .places-held .ensures .bound, c .before .before .before .if4 .left)
-
-with-list-requires : tie.Need-with-list-requires
-with-list-requires c κs = search needs
-
-done-requires : tie.Need-done-requires
-done-requires c κs = search needs
+wire-requires : tie.Need-wire-requires
+wire-requires c κs = omega (arith, c .before .before .before .before .places-held .ensures .bound, c .before .before .before .if4 .left)
 
 returns-8 : tie.Need-returns-8
 returns-8 c = let a = c .before .before .before .before .before .before .before .before .before .before .before .before .before .before .before .before .before .before .before .before .before .before .before .before .before .args in add-14 (a .t1) (a .target .now) (a .source .now) (a .index) _ (sym (c .before .before .before .before .before .before .before .before .before .before .before .before .before .before .before .before .before .before .before .before .before .before .is-valid .ensures) ∙ not-false _ (c .before .before .before .before .before .before .before .before .before .before .before .before .before .before .before .before .before .before .before .before .before .if1 .left)) (c .before .before .before .before .before .before .before .before .before .before .before .before .before .before .before .before .before .before .before .before .if2 .left) (c .before .before .before .before .before .before .before .before .before .before .before .before .before .before .before .before .before .before .before .if3 .left) _ (c .before .before .before .before .before .before .before .before .before .before .before .before .before .before .before .before .before .before .tag-of .ensures) _ (c .before .before .before .before .before .before .before .before .before .before .before .before .before .before .before .before .before .tag-of2 .ensures) _ (c .before .before .before .before .before .before .before .before .before .before .before .before .before .before .before .before .find-component .ensures) (c .before .before .before .before .before .before .before .before .before .before .before .before .before .before .enum-told2 .given .1) _ (c .before .before .before .before .before .before .before .before .before .before .before .before .before .find-component2 .ensures) (c .before .before .before .before .before .before .before .before .before .before .before .enum-told4 .given .1) _ (c .before .before .before .before .before .before .before .before .before .before .find-list .ensures) _ (c .before .before .before .before .before .before .before .before .h .given .1) no-list (omega (arith, c .before .before .before .before .before .places-held .ensures .live, c .before .before .before .before .if4 .left)) _ (c .before .before .before .walk-from .ensures) (c .before .enum-told6 .given .1) (c .refuse5 .ensures)
@@ -142,7 +131,7 @@ returns-9 : tie.Need-returns-9
 returns-9 c = let a = c .before .before .before .before .before .before .before .before .before .before .before .before .before .before .before .before .before .before .before .before .before .before .before .before .before .before .before .before .args in add-13 (a .t1) (a .target .now) (a .source .now) (a .index) _ (sym (c .before .before .before .before .before .before .before .before .before .before .before .before .before .before .before .before .before .before .before .before .before .before .before .before .before .is-valid .ensures) ∙ not-false _ (c .before .before .before .before .before .before .before .before .before .before .before .before .before .before .before .before .before .before .before .before .before .before .before .before .if1 .left)) (c .before .before .before .before .before .before .before .before .before .before .before .before .before .before .before .before .before .before .before .before .before .before .before .if2 .left) (c .before .before .before .before .before .before .before .before .before .before .before .before .before .before .before .before .before .before .before .before .before .before .if3 .left) _ (c .before .before .before .before .before .before .before .before .before .before .before .before .before .before .before .before .before .before .before .before .before .tag-of .ensures) _ (c .before .before .before .before .before .before .before .before .before .before .before .before .before .before .before .before .before .before .before .before .tag-of2 .ensures) _ (c .before .before .before .before .before .before .before .before .before .before .before .before .before .before .before .before .before .before .before .find-component .ensures) (c .before .before .before .before .before .before .before .before .before .before .before .before .before .before .before .before .before .enum-told2 .given .1) _ (c .before .before .before .before .before .before .before .before .before .before .before .before .before .before .before .before .find-component2 .ensures) (c .before .before .before .before .before .before .before .before .before .before .before .before .before .before .enum-told4 .given .1) _ (c .before .before .before .before .before .before .before .before .before .before .before .before .before .find-list .ensures) _ (c .before .before .before .before .before .before .before .before .before .before .before .h .given .1) no-list (omega (arith, c .before .before .before .before .before .before .before .before .places-held .ensures .live, c .before .before .before .before .before .before .before .if4 .left)) _ (c .before .before .before .before .before .before .walk-from .ensures) _ _ (c .before .before .before .before .e .given .1) no-list (c .refuse6 .ensures)
 
 returns-10 : tie.Need-returns-10
-returns-10 c = let a = c .before .before .before .before .before .before .before .before .before .before .before .before .before .before .before .before .before .before .before .before .before .before .before .before .before .before .before .args in add-done (a .t1) (a .target .now) (a .source .now) (a .index) _ (sym (c .before .before .before .before .before .before .before .before .before .before .before .before .before .before .before .before .before .before .before .before .before .before .before .before .is-valid .ensures) ∙ not-false _ (c .before .before .before .before .before .before .before .before .before .before .before .before .before .before .before .before .before .before .before .before .before .before .before .if1 .left)) (c .before .before .before .before .before .before .before .before .before .before .before .before .before .before .before .before .before .before .before .before .before .before .if2 .left) (c .before .before .before .before .before .before .before .before .before .before .before .before .before .before .before .before .before .before .before .before .before .if3 .left) _ (c .before .before .before .before .before .before .before .before .before .before .before .before .before .before .before .before .before .before .before .before .tag-of .ensures) _ (c .before .before .before .before .before .before .before .before .before .before .before .before .before .before .before .before .before .before .before .tag-of2 .ensures) _ (c .before .before .before .before .before .before .before .before .before .before .before .before .before .before .before .before .before .before .find-component .ensures) (c .before .before .before .before .before .before .before .before .before .before .before .before .before .before .before .before .enum-told2 .given .1) _ (c .before .before .before .before .before .before .before .before .before .before .before .before .before .before .before .find-component2 .ensures) (c .before .before .before .before .before .before .before .before .before .before .before .before .before .enum-told4 .given .1) _ (c .before .before .before .before .before .before .before .before .before .before .before .before .find-list .ensures) _ (c .before .before .before .before .before .before .before .before .before .before .h .given .1) no-list (omega (arith, c .before .before .before .before .before .before .before .places-held .ensures .live, c .before .before .before .before .before .before .if4 .left)) _ (c .before .before .before .before .before .walk-from .ensures) (c .before .before .before .enum-told7 .given .1) (subst (λ (x : Record). Ends done x (c .done .result)) (c .before .with-list .ensures ∙ ap (λ (x : InputList). withList (a .t1) (c .before .before .before .before .before .before .before .before .before .before .h .given .0 .0) x) (c .before .before .placed .ensures)) (c .done .ensures))
+returns-10 c = let a = c .before .before .before .before .before .before .before .before .before .before .before .before .before .before .before .before .before .before .before .before .before .before .before .before .before .args in add-done (a .t1) (a .target .now) (a .source .now) (a .index) _ (sym (c .before .before .before .before .before .before .before .before .before .before .before .before .before .before .before .before .before .before .before .before .before .before .is-valid .ensures) ∙ not-false _ (c .before .before .before .before .before .before .before .before .before .before .before .before .before .before .before .before .before .before .before .before .before .if1 .left)) (c .before .before .before .before .before .before .before .before .before .before .before .before .before .before .before .before .before .before .before .before .if2 .left) (c .before .before .before .before .before .before .before .before .before .before .before .before .before .before .before .before .before .before .before .if3 .left) _ (c .before .before .before .before .before .before .before .before .before .before .before .before .before .before .before .before .before .before .tag-of .ensures) _ (c .before .before .before .before .before .before .before .before .before .before .before .before .before .before .before .before .before .tag-of2 .ensures) _ (c .before .before .before .before .before .before .before .before .before .before .before .before .before .before .before .before .find-component .ensures) (c .before .before .before .before .before .before .before .before .before .before .before .before .before .before .enum-told2 .given .1) _ (c .before .before .before .before .before .before .before .before .before .before .before .before .before .find-component2 .ensures) (c .before .before .before .before .before .before .before .before .before .before .before .enum-told4 .given .1) _ (c .before .before .before .before .before .before .before .before .before .before .find-list .ensures) _ (c .before .before .before .before .before .before .before .before .h .given .1) no-list (omega (arith, c .before .before .before .before .before .places-held .ensures .live, c .before .before .before .before .if4 .left)) _ (c .before .before .before .walk-from .ensures) (c .before .enum-told7 .given .1) (c .wire .ensures)
 
 pub add-input-spec : {M : Type 1} → statement M
 add-input-spec =
@@ -185,9 +174,7 @@ add-input-spec =
     element-copy-out-o
     refuse-requires-6
     enum-told-7
-    placed-requires
-    with-list-requires
-    done-requires
+    wire-requires
     returns-8
     returns-9
     returns-10)
