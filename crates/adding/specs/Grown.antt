@@ -9,8 +9,8 @@ use Rattle.tag.specs.Tags.{Tag}
 use Rattle.component.specs.declared.model_component.Component.{Component}
 use Rattle.model.specs.declared.implicit_model.InputList.{InputList}
 use Rattle.model.specs.declared.implicit_model.Model.{Model as Record}
-use Rattle.model.specs.declared.find.Found.{Found}
-use Rattle.model.specs.declared.find.Found.the-variants.{At, Nothing}
+use Rattle.held.specs.declared.find.Found.{Found}
+use Rattle.held.specs.declared.find.Found.the-variants.{At, Nothing}
 use Rattle.model.specs.Edit.{Edit, edit, addPlain}
 use Rattle.model.specs.View.{view}
 use Rattle.edit.specs.declared.Edited.{Edited}

@@ -1,7 +1,7 @@
 // Adding: `add_constant`, `add_function`, `add_operation` and `add_component`.
 use component::model_component::Component;
 use edit::Edited;
-use model::find::Found;
+use held::find::Found;
 use model::implicit_model::ComponentEntry;
 use model::implicit_model::InputList;
 use model::implicit_model::Model;
@@ -49,7 +49,7 @@ fn with_more(m: Model, t: Tag, c: Component, d: Tag) -> Model
 fn add_plain(m: Model, tag: &[u8], c: Component, fits: bool) -> Edited
     ensures { λ r. ⌜ Plainly (now (tag .entry)) c fits m r ⌝ }
 {
-    if !model::validity::is_valid(m) {
+    if !held::validity::is_valid(m) {
         return edit::refuse_plain(m, ModelError::InvalidModel);
     }
     if 32 < tag.len() {
@@ -59,7 +59,7 @@ fn add_plain(m: Model, tag: &[u8], c: Component, fits: bool) -> Edited
     if !fits {
         return edit::refuse(m, ModelError::ParameterDoesNotFit, t, 0);
     }
-    let f = model::find::find_component(m, t);
+    let f = held::find::find_component(m, t);
     if let Found::At(_) = f {
         return edit::refuse(m, ModelError::DuplicateTag, t, 0);
     }
@@ -211,7 +211,7 @@ pub fn add_operation(
 ) -> Edited
     ensures { λ r. ⌜ Meets (addOperation (now (tag .entry)) c (inputsOf given n (now (a .entry)) (now (b .entry)) (now (d .entry)))) m r ⌝ }
 {
-    if !model::validity::is_valid(m) {
+    if !held::validity::is_valid(m) {
         return edit::refuse_plain(m, ModelError::InvalidModel);
     }
     if 32 < tag.len() {
@@ -224,7 +224,7 @@ pub fn add_operation(
     if !component::kind::is_operation(c) {
         return edit::refuse(m, ModelError::ParameterDoesNotFit, t, 0);
     }
-    let f = model::find::find_component(m, t);
+    let f = held::find::find_component(m, t);
     if let Found::At(_) = f {
         return edit::refuse(m, ModelError::DuplicateTag, t, 0);
     }
@@ -236,7 +236,7 @@ pub fn add_operation(
     if !room {
         return edit::refuse_plain(m, ModelError::ComponentsFull);
     }
-    let g = model::find::find_list(m, t);
+    let g = held::find::find_list(m, t);
     if no_room(m, g) {
         return edit::refuse_plain(m, ModelError::ListsFull);
     }
@@ -250,11 +250,11 @@ fn free_tag(m: Model, t: Tag) -> Numbered
     requires { ⌜ Nameable m t ⌝ }
     ensures { λ r. ⌜ FreeTag (componentsOf m) (bytesOf t) r ⌝ }
 {
-    let f = model::find::find_component(m, t);
+    let f = held::find::find_component(m, t);
     if let Found::Nothing = f {
         return Numbered { fits: true, tag: t };
     }
-    let mut left = model::find::components_held(m) + 1;
+    let mut left = held::find::components_held(m) + 1;
     let mut k: usize = 1;
     while 0 < left {
         let u = tag::numbered::numbered_tag(t, k);
@@ -262,7 +262,7 @@ fn free_tag(m: Model, t: Tag) -> Numbered
             return u;
         }
         let s = u.tag;
-        let g = model::find::find_component(m, s);
+        let g = held::find::find_component(m, s);
         if let Found::Nothing = g {
             return u;
         }
@@ -279,7 +279,7 @@ fn free_tag(m: Model, t: Tag) -> Numbered
 pub fn add_component(m: Model, tag: &[u8], c: Component) -> Edited
     ensures { λ r. ⌜ Meets (addComponent (now (tag .entry)) c) m r ⌝ }
 {
-    if !model::validity::is_valid(m) {
+    if !held::validity::is_valid(m) {
         return edit::refuse_plain(m, ModelError::InvalidModel);
     }
     if 32 < tag.len() {
@@ -298,7 +298,7 @@ pub fn add_component(m: Model, tag: &[u8], c: Component) -> Edited
     if !component::kind::is_operation(c) {
         return edit::made(w, s);
     }
-    let g = model::find::find_list(m, s);
+    let g = held::find::find_list(m, s);
     if no_room(m, g) {
         return edit::refuse_plain(m, ModelError::ListsFull);
     }

@@ -62,7 +62,7 @@ fn main() {
     let mut buf = io::buffer();
     let mut line = io::large_buffer();
     let mut out = io::large_buffer();
-    let empty = model::reading::new();
+    let empty = held::reading::new();
     let mut state = State {
         model: empty,
         held: 0,

@@ -1,15 +1,12 @@
--- What the arms for several kinds at once return, the keys being the places of those kinds in the enum; and what is past the end of a list of parameters. Assumes nothing.
+-- What the arms for several kinds at once return, the keys being the places of those kinds in the enum. Assumes nothing.
 use mathlib.Core.Path.{_≡_, refl}
 use mathlib.Core.List.{List, [], _∷_}
-use Prim.Native.Nat.{ℕ, _≤_}
-use lib.ListN.{length, getD, List·getD-eq-default}
+use Prim.Native.Nat.{ℕ}
 use lib.Ieee.{Float}
 use types.Run.{OneOf, miss}
 use denote.Enum.Declared.{tagOf}
 use Rattle.geometry.specs.declared.vec3f.Vec3.{Vec3}
 use Rattle.component.specs.Parameter.{Name, setValue, setVec3, readParameter}
-use Rattle.component.specs.Names.{Entry, noParameter, parameterAt, Described}
-use Rattle.component.specs.declared.parameter.Parameter.{Parameter}
 use Rattle.component.specs.declared.model_component.Setting.{Setting}
 use Rattle.component.specs.declared.model_component.Setting.the-variants.{DoesNotFit}
 use Rattle.component.specs.declared.model_component.Reading.{Reading}
@@ -52,12 +49,6 @@ plain-value c n v h = plain-is (λ k. DoesNotFit ≡ setValue k n v) refl refl r
 pub plain-reading : (c : Component) (n : Name) → OneOf plain (tagOf the-type c) → Nothing ≡ readParameter c n
 unfolding readParameter
 plain-reading c n h = plain-is (λ k. Nothing ≡ readParameter k n) refl refl refl refl refl refl refl refl c h
-
-pub plain-none : (c : Component) (i : ℕ) (r : Parameter) → Described noParameter r → OneOf plain (tagOf the-type c) → Described (parameterAt c i) r
-plain-none c i r d h = plain-is (λ k. Described (parameterAt k i) r) d d d d d d d d c h
-
-pub past : (es : List Entry) (i : ℕ) (r : Parameter) → length es ≤ i → Described noParameter r → Described (getD es i noParameter) r
-past es i r h d = rw (List·getD-eq-default es noParameter h) d
 
 pub uncentred-vec3 : (c : Component) (n : Name) (v : Vec3) → OneOf uncentred (tagOf the-type c) → DoesNotFit ≡ setVec3 c n v
 unfolding setVec3

@@ -1,4 +1,3 @@
 pub mod Value
 pub mod Kind
 pub mod Parameter
-pub mod Names

@@ -2,7 +2,6 @@
 pub mod kind;
 pub mod math;
 pub mod model_component;
-pub mod naming;
 pub mod parameter;
 pub mod reading;
 pub mod setting;

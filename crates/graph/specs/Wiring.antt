@@ -12,11 +12,11 @@ use Rattle.tag.specs.View.{bytesOf}
 use Rattle.tag.specs.declared.Tag.{Tag as Label}
 use Rattle.model.specs.declared.implicit_model.InputList.{InputList}
 use Rattle.model.specs.declared.implicit_model.Model.{Model as Record}
-use Rattle.model.specs.declared.find.Found.{Found}
-use Rattle.model.specs.declared.find.Found.the-variants.{At, Nothing}
+use Rattle.held.specs.declared.find.Found.{Found}
+use Rattle.held.specs.declared.find.Found.the-variants.{At, Nothing}
 use Rattle.model.specs.Model.{Place}
 use Rattle.model.specs.View.{placeOf, rows, componentsOf, listsOf}
-use Rattle.model.specs.Search.{position}
+use Rattle.held.specs.Search.{position}
 use Rattle.graph.specs.declared.wiring.Slot.{Slot}
 
 -- ---- nodes

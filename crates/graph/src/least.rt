@@ -9,7 +9,7 @@ ghost use mathlib.Core.Path.{_≡_};
 ghost use mathlib.Core.Bool.{true, false};
 ghost use Prim.Native.Nat.{min};
 ghost use Rattle.model.specs.View.{passes};
-ghost use Rattle.model.proofs.Laws.Rows.{no-list};
+ghost use Rattle.held.proofs.Laws.Rows.{no-list};
 ghost use Rattle.graph.specs.Wiring.{slots, Resolved, Owned};
 ghost use Rattle.graph.specs.Least.{takeIn, absentTurn, gapTurn, LeastOf, AbsentShown, GapShown};
 

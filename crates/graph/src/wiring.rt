@@ -1,7 +1,7 @@
 // From the record of a model to node numbers. A component's node is its position; a list whose tag has no component is 64 and on.
-use model::find::Found;
-use model::find::find_component;
-use model::find::find_list;
+use held::find::Found;
+use held::find::find_component;
+use held::find::find_list;
 use model::implicit_model::ComponentEntry;
 use model::implicit_model::InputList;
 use model::implicit_model::Model;
@@ -11,7 +11,7 @@ ghost use mathlib.Core.Bool.{true};
 ghost use Prim.Native.Nat.{_<_};
 ghost use Rattle.tag.specs.View.{bytesOf};
 ghost use Rattle.model.specs.View.{passes};
-ghost use Rattle.model.proofs.Laws.Rows.{no-list};
+ghost use Rattle.held.proofs.Laws.Rows.{no-list};
 ghost use Rattle.graph.specs.Wiring.{nodeOf, wantOf, slotOf, settleOf, Resolved, Owned, Wired};
 
 // The node of a tag, or 192. It searches the tables; `resolve` asks it only where a guess fails, since the call copies the model.

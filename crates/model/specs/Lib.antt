@@ -6,5 +6,3 @@ pub mod Form
 pub mod Steady
 pub mod Answer
 pub mod View
-pub mod Search
-pub mod Reading

@@ -1,6 +1,3 @@
 // The record of a form model, and the definitions of document 01 on it.
-pub mod find;
 pub mod implicit_model;
 pub mod model_error;
-pub mod reading;
-pub mod validity;

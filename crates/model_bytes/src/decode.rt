@@ -16,7 +16,7 @@ ghost use Prim.Native.Nat.{_+_, _-_, _≤_};
 ghost use lib.ListN.{length, take, drop};
 ghost use Rattle.tag.specs.View.{bytesOf, tagFits};
 ghost use Rattle.model.specs.View.{placeOf, placeFits, componentOf, entryFits, listOf, listFits};
-ghost use Rattle.model.specs.Reading.{New};
+ghost use Rattle.held.specs.Reading.{New};
 ghost use Rattle.layout.specs.Components.{componentRead};
 ghost use Rattle.model_bytes.specs.ModelBytes.{blank, textIn, tagIn, placeIn, sixIn, sameWords, componentIn, rowsIn, entryIn, placeRow, listIn, headed, entryRow, listRow};
 ghost use Rattle.model_bytes.specs.Steps.{Read, Filled};
@@ -408,7 +408,7 @@ fn is_headed(s: &[u8]) -> bool
 fn no_model() -> Decoded
     ensures { λ r. ⌜ (r .ok ≡ false) × New (r .model) ⌝ }
 {
-    let m = model::reading::new();
+    let m = held::reading::new();
     Decoded {
         ok: false,
         model: m,

@@ -1,7 +1,7 @@
 // Whether the counts and lengths that a record names are within their sizes.
-use model::find::components_held;
-use model::find::lists_held;
-use model::find::places_held;
+use held::find::components_held;
+use held::find::lists_held;
+use held::find::places_held;
 use model::implicit_model::InputList;
 use model::implicit_model::Model;
 use model::implicit_model::Place;

@@ -178,7 +178,7 @@ fn put_kind(out: &mut [u8], n: usize, c: Component) -> usize {
         Component::Sphere(_) => put(out, n, b" sphere"),
         Component::Torus(_) => put(out, n, b" torus"),
         _ => {
-            let name = component::naming::type_name(c);
+            let name = naming::type_name(c);
             let bytes = name.bytes;
             let s = put(out, n, b" ");
             put(out, s, crate::text::first(&bytes, name.len))

@@ -2,7 +2,7 @@
 pub mod swapping;
 
 use edit::Edited;
-use model::find::Found;
+use held::find::Found;
 use model::implicit_model::Model;
 use model::implicit_model::Place;
 use model::model_error::ModelError;
@@ -28,7 +28,7 @@ fn without_entry(m: Model, i: usize) -> Model
 pub fn remove_component(m: Model, tag: &[u8]) -> Edited
     ensures { λ r. ⌜ Meets (removeComponent (now (tag .entry))) m r ⌝ }
 {
-    if !model::validity::is_valid(m) {
+    if !held::validity::is_valid(m) {
         return edit::refuse_plain(m, ModelError::InvalidModel);
     }
     if 32 < tag.len() {
@@ -39,7 +39,7 @@ pub fn remove_component(m: Model, tag: &[u8]) -> Edited
         assigned: false,
         tag: t,
     };
-    let f = model::find::find_component(m, t);
+    let f = held::find::find_component(m, t);
     let Found::At(i) = f else {
         return edit::refuse(m, ModelError::MissingTag, t, 0);
     };

@@ -24,7 +24,7 @@ pub fn place_swapped(p: Place, t: Tag, by: Place) -> Place
 pub fn list_swapped(l: InputList, t: Tag, by: Place) -> InputList
     ensures { λ r. ⌜ ListSwapped (bytesOf t) by l r ⌝ }
 {
-    let places = model::find::places_held(l);
+    let places = held::find::places_held(l);
     let mut w = l;
     let mut i: usize = 0;
     while i < places {
@@ -40,7 +40,7 @@ pub fn list_swapped(l: InputList, t: Tag, by: Place) -> InputList
 pub fn places_swapped(m: Model, t: Tag, by: Place) -> Model
     ensures { λ r. ⌜ PlacesSwapped (bytesOf t) by m r ⌝ }
 {
-    let lists = model::find::lists_held(m);
+    let lists = held::find::lists_held(m);
     let p = m.default;
     let d = place_swapped(p, t, by);
     let mut w = m;

@@ -1,6 +1,6 @@
 // Renaming: `rename_component`.
 use edit::Edited;
-use model::find::Found;
+use held::find::Found;
 use model::implicit_model::ComponentEntry;
 use model::implicit_model::InputList;
 use model::implicit_model::Model;
@@ -54,13 +54,13 @@ fn list_moved(m: Model, t: Tag, u: Tag) -> Model
     requires { ⌜ Movable m t u ⌝ }
     ensures { λ r. ⌜ ListMoved m (bytesOf t) (bytesOf u) r ⌝ }
 {
-    let f = model::find::find_list(m, t);
+    let f = held::find::find_list(m, t);
     let Found::At(i) = f else {
         return m;
     };
     let own = m.lists[i];
     let l = list_under(own, u);
-    let g = model::find::find_list(m, u);
+    let g = held::find::find_list(m, u);
     let Found::At(j) = g else {
         return edit::rows::with_list(m, i, l);
     };
@@ -71,7 +71,7 @@ fn list_moved(m: Model, t: Tag, u: Tag) -> Model
 pub fn rename_component(m: Model, old: &[u8], new: &[u8]) -> Edited
     ensures { λ r. ⌜ Meets (renameComponent (now (old .entry)) (now (new .entry))) m r ⌝ }
 {
-    if !model::validity::is_valid(m) {
+    if !held::validity::is_valid(m) {
         return edit::refuse_plain(m, ModelError::InvalidModel);
     }
     if 32 < old.len() {
@@ -86,11 +86,11 @@ pub fn rename_component(m: Model, old: &[u8], new: &[u8]) -> Edited
         assigned: true,
         tag: u,
     };
-    let f = model::find::find_component(m, u);
+    let f = held::find::find_component(m, u);
     if let Found::At(_) = f {
         return edit::refuse(m, ModelError::DuplicateTag, u, 0);
     }
-    let g = model::find::find_component(m, t);
+    let g = held::find::find_component(m, t);
     let Found::At(i) = g else {
         return edit::refuse(m, ModelError::MissingTag, t, 0);
     };

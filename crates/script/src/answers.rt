@@ -73,7 +73,7 @@ fn put_order(out: &mut [u8], n: usize, m: Model, order: [usize; 64], count: usiz
     let mut k = n;
     let mut i: usize = 0;
     while i < held {
-        let a = model::reading::component_at(m, order[i]);
+        let a = held::reading::component_at(m, order[i]);
         let e = a.entry;
         let t = e.tag;
         k = put_tag(out, k, t);
@@ -112,7 +112,7 @@ fn evaluate_at(out: &mut [u8], m: Model, target: &[u8], p: Vec3) -> usize {
 
 // A model that 7 does not let pass is not written.
 fn dump(out: &mut [u8], m: Model) -> usize {
-    if model::validity::is_valid(m) {
+    if held::validity::is_valid(m) {
         let word = put(out, 0, b"ok");
         return put_record(out, word, m);
     }
@@ -182,7 +182,7 @@ fn no_command(out: &mut [u8], m: Model) -> Answered {
 // A command with its arguments.
 fn done(out: &mut [u8], m: Model, c: Command, r: Arguments, line: &[u8]) -> Answered {
     match c {
-        Command::New => replaced(out, model::reading::new()),
+        Command::New => replaced(out, held::reading::new()),
         Command::Compile | Command::EvaluateAt | Command::Dump | Command::Vec3 => {
             let t = r.tags[0];
             let len = asked(out, m, c, t, r, line);

@@ -172,7 +172,7 @@ fn with_lists(l: Loading, line: &[u8]) -> Loading {
 
 // The model of the record that starts at a place of the line and ends with it.
 pub fn load(line: &[u8], at: usize) -> Loading {
-    let empty = model::reading::new();
+    let empty = held::reading::new();
     let d = with_default(empty, line, at);
     let c = with_components(d, line);
     let mut l = with_lists(c, line);

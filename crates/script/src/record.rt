@@ -1,7 +1,7 @@
 // A model written as a record, both tables in ascending tag order.
-use model::find::components_held;
-use model::find::lists_held;
-use model::find::places_held;
+use held::find::components_held;
+use held::find::lists_held;
+use held::find::places_held;
 use model::implicit_model::ComponentEntry;
 use model::implicit_model::InputList;
 use model::implicit_model::Model;
@@ -97,7 +97,7 @@ fn put_components(out: &mut [u8], n: usize, m: Model) -> usize {
     let mut last = no_place();
     let mut i: usize = 0;
     while i < held {
-        let a = model::reading::component_at(m, next_component(m, last));
+        let a = held::reading::component_at(m, next_component(m, last));
         let e = a.entry;
         let t = e.tag;
         k = put_entry(out, k, e);
@@ -129,7 +129,7 @@ fn put_lists(out: &mut [u8], n: usize, m: Model) -> usize {
     let mut last = no_place();
     let mut i: usize = 0;
     while i < held {
-        let a = model::reading::list_at(m, next_list(m, last));
+        let a = held::reading::list_at(m, next_list(m, last));
         let l = a.list;
         let t = l.tag;
         k = put_list(out, k, l);
@@ -140,7 +140,7 @@ fn put_lists(out: &mut [u8], n: usize, m: Model) -> usize {
 }
 
 pub fn put_record(out: &mut [u8], n: usize, m: Model) -> usize {
-    let d = model::reading::get_default_output(m);
+    let d = held::reading::get_default_output(m);
     let named = put(out, n, b" default");
     let k = put_place(out, named, d);
     let c = put_components(out, k, m);

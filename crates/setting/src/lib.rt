@@ -2,7 +2,7 @@
 use component::model_component::Setting;
 use component::parameter::Data;
 use edit::Edited;
-use model::find::Found;
+use held::find::Found;
 use model::implicit_model::ComponentEntry;
 use model::implicit_model::Model;
 use model::model_error::ModelError;
@@ -12,14 +12,14 @@ ghost use Rattle.edit.specs.Meets.{Meets};
 pub fn set_parameter(m: Model, tag: &[u8], name: &[u8], data: Data) -> Edited
     ensures { λ r. ⌜ Meets (setParameter (now (tag .entry)) (now (name .entry)) «data») m r ⌝ }
 {
-    if !model::validity::is_valid(m) {
+    if !held::validity::is_valid(m) {
         return edit::refuse_plain(m, ModelError::InvalidModel);
     }
     if 32 < tag.len() {
         return edit::refuse_plain(m, ModelError::TagTooLong);
     }
     let t = tag::tag_of(tag);
-    let f = model::find::find_component(m, t);
+    let f = held::find::find_component(m, t);
     let Found::At(i) = f else {
         return edit::refuse(m, ModelError::MissingTag, t, 0);
     };

@@ -1,6 +1,6 @@
 // Wiring: `add_input`, with its walk, and `remove_input`.
 use edit::Edited;
-use model::find::Found;
+use held::find::Found;
 use model::implicit_model::InputList;
 use model::implicit_model::Model;
 use model::implicit_model::Place;
@@ -50,7 +50,7 @@ fn joined(m: Model, line: Line, t: Tag) -> Line
     requires { ⌜ Counted line ⌝ }
     ensures { λ r. ⌜ Joined (listsOf m) (bytesOf t) line r ⌝ }
 {
-    let f = model::find::find_list(m, t);
+    let f = held::find::find_list(m, t);
     let Found::At(q) = f else {
         return line;
     };
@@ -80,7 +80,7 @@ fn walk(m: Model, target: usize, from: usize) -> Ended
             break 'walk;
         }
         let l = m.lists[r];
-        let n = model::find::places_held(l);
+        let n = held::find::places_held(l);
         let mut i: usize = 0;
         while i < n {
             let p = l.places[i];
@@ -102,7 +102,7 @@ fn walk_from(m: Model, target: usize, source: Tag) -> Ended
     requires { ⌜ Startable m target ⌝ }
     ensures { λ r. ⌜ Wires m target (bytesOf source) r ⌝ }
 {
-    let f = model::find::find_list(m, source);
+    let f = held::find::find_list(m, source);
     let Found::At(q) = f else {
         return Ended::Clear;
     };
@@ -135,19 +135,19 @@ fn wire(m: Model, i: usize, l: InputList, index: usize, s: Tag) -> Edited
 pub fn remove_input(m: Model, tag: &[u8], index: usize) -> Edited
     ensures { λ r. ⌜ Meets (removeInput (now (tag .entry)) index) m r ⌝ }
 {
-    if !model::validity::is_valid(m) {
+    if !held::validity::is_valid(m) {
         return edit::refuse_plain(m, ModelError::InvalidModel);
     }
     if 32 < tag.len() {
         return edit::refuse_plain(m, ModelError::TagTooLong);
     }
     let t = tag::tag_of(tag);
-    let f = model::find::find_list(m, t);
+    let f = held::find::find_list(m, t);
     let Found::At(i) = f else {
         return edit::refuse(m, ModelError::MissingTag, t, 0);
     };
     let l = m.lists[i];
-    let held = model::find::places_held(l);
+    let held = held::find::places_held(l);
     if held <= index {
         return edit::refuse(m, ModelError::InputIndexOutOfRange, t, index);
     }
@@ -162,7 +162,7 @@ pub fn remove_input(m: Model, tag: &[u8], index: usize) -> Edited
 pub fn add_input(m: Model, target: &[u8], source: &[u8], index: usize) -> Edited
     ensures { λ r. ⌜ Meets (addInput (now (target .entry)) (now (source .entry)) index) m r ⌝ }
 {
-    if !model::validity::is_valid(m) {
+    if !held::validity::is_valid(m) {
         return edit::refuse_plain(m, ModelError::InvalidModel);
     }
     if 32 < target.len() {
@@ -173,20 +173,20 @@ pub fn add_input(m: Model, target: &[u8], source: &[u8], index: usize) -> Edited
     }
     let t = tag::tag_of(target);
     let s = tag::tag_of(source);
-    let f = model::find::find_component(m, t);
+    let f = held::find::find_component(m, t);
     if let Found::Nothing = f {
         return edit::refuse(m, ModelError::MissingTag, t, 0);
     }
-    let g = model::find::find_component(m, s);
+    let g = held::find::find_component(m, s);
     if let Found::Nothing = g {
         return edit::refuse(m, ModelError::MissingTag, s, 0);
     }
-    let h = model::find::find_list(m, t);
+    let h = held::find::find_list(m, t);
     let Found::At(i) = h else {
         return edit::refuse(m, ModelError::MissingTag, t, 0);
     };
     let l = m.lists[i];
-    let n = model::find::places_held(l);
+    let n = held::find::places_held(l);
     if n <= index {
         return edit::refuse(m, ModelError::InputIndexOutOfRange, t, index);
     }

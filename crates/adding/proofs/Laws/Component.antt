@@ -16,15 +16,15 @@ use Rattle.component.specs.Value.{inputCount}
 use Rattle.component.specs.declared.model_component.Component.{Component}
 use Rattle.model.specs.declared.implicit_model.InputList.{InputList}
 use Rattle.model.specs.declared.implicit_model.Model.{Model as Record}
-use Rattle.model.specs.declared.find.Found.{Found}
+use Rattle.held.specs.declared.find.Found.{Found}
 use Rattle.model.specs.Table.{find}
 use Rattle.model.specs.Edit.{addComponent, made, check, edit, addAny, addFree, addUnder, freeTag, full, listsFull, withComponent, withOperation}
 use Rattle.model.specs.View.{componentsOf, listsOf, view, passes}
-use Rattle.model.specs.Search.{Sought}
+use Rattle.held.specs.Search.{Sought}
 use Rattle.model.proofs.Laws.Bool.{true→T}
 use Rattle.model.proofs.Laws.Numbered.{free-tag}
-use Rattle.model.proofs.Laws.Passes.{fits-short}
-use Rattle.model.proofs.Laws.Standing.{standing}
+use Rattle.held.proofs.Laws.Passes.{fits-short}
+use Rattle.held.proofs.Laws.Standing.{standing}
 use Rattle.edit.specs.declared.Edited.{Edited}
 use Rattle.edit.specs.Meets.{Meets}
 use Rattle.edit.specs.Ends.{Ends, Refused}

@@ -18,16 +18,16 @@ use Rattle.tag.proofs.Laws.Is.{is-true}
 use Rattle.tag.proofs.Laws.View.{made-whole}
 use Rattle.component.specs.declared.model_component.Component.{Component}
 use Rattle.model.specs.declared.implicit_model.Model.{Model as Record}
-use Rattle.model.specs.declared.find.Found.{Found}
-use Rattle.model.specs.declared.find.Found.the-variants.{At, Nothing}
+use Rattle.held.specs.declared.find.Found.{Found}
+use Rattle.held.specs.declared.find.Found.the-variants.{At, Nothing}
 use Rattle.model.specs.Table.{all, Table, held}
 use Rattle.model.specs.Model.{shortTag}
 use Rattle.model.specs.Edit.{firstFree, freeTag}
 use Rattle.model.specs.View.{componentsOf, view, passes}
-use Rattle.model.specs.Search.{Sought}
+use Rattle.held.specs.Search.{Sought}
 use Rattle.model.proofs.Laws.Bool.{true→T, and-T₁, and-T₂}
 use Rattle.model.proofs.Laws.Valid.{valid-passed}
-use Rattle.model.proofs.Laws.Standing.{passes-valid}
+use Rattle.held.proofs.Laws.Standing.{passes-valid}
 use Rattle.edit.proofs.Laws.Tests.{taken, free}
 use Rattle.adding.specs.Free.{FreeTag}
 

@@ -16,8 +16,8 @@ use Rattle.model.specs.Table.{Table, find, put}
 use Rattle.model.specs.Model.{Place, Same}
 use Rattle.model.specs.View.{placeOf, placeFits, componentOf, listOf, entryFits, listFits, componentsOf, listsOf, view}
 use Rattle.model.proofs.Laws.Bool.{true→T}
-use Rattle.model.proofs.Laws.Changes.{becomes-refl}
-use Rattle.model.proofs.Laws.Standing.{Standing, same-view}
+use Rattle.held.proofs.Laws.Changes.{becomes-refl}
+use Rattle.held.proofs.Laws.Standing.{Standing, same-view}
 use Rattle.edit.proofs.Laws.Stored.{Stored, more-row}
 
 -- the component c under u, the default e, and the lists ls of which n are live

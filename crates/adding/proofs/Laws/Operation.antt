@@ -18,15 +18,15 @@ use Rattle.component.specs.declared.model_component.Component.{Component}
 use Rattle.component.proofs.Theorems.Count.{count-few}
 use Rattle.model.specs.declared.implicit_model.InputList.{InputList}
 use Rattle.model.specs.declared.implicit_model.Model.{Model as Record}
-use Rattle.model.specs.declared.find.Found.{Found}
-use Rattle.model.specs.declared.find.Found.the-variants.{At, Nothing}
+use Rattle.held.specs.declared.find.Found.{Found}
+use Rattle.held.specs.declared.find.Found.the-variants.{At, Nothing}
 use Rattle.model.specs.Table.{any, find, held}
 use Rattle.model.specs.Model.{Place}
 use Rattle.model.specs.Edit.{addOperation, made, Outcome, check, edit, addOp, full, listsFull, lookedAt, newPlaces, withOperation}
 use Rattle.model.specs.View.{listOf, listFits, componentsOf, listsOf, view, passes}
-use Rattle.model.specs.Search.{Sought}
-use Rattle.model.proofs.Laws.Rows.{no-list, rows-length}
-use Rattle.model.proofs.Laws.Standing.{Standing, standing}
+use Rattle.held.specs.Search.{Sought}
+use Rattle.held.proofs.Laws.Rows.{no-list, rows-length}
+use Rattle.held.proofs.Laws.Standing.{Standing, standing}
 use Rattle.edit.specs.declared.Edited.{Edited}
 use Rattle.edit.specs.Meets.{Meets}
 use Rattle.edit.specs.Ends.{Ends, Refused}

@@ -12,14 +12,14 @@ use Rattle.component.specs.Kind.{isFunction}
 use Rattle.component.specs.declared.model_component.Component.{Component}
 use Rattle.component.specs.declared.model_component.Component.the-variants.{Constant}
 use Rattle.model.specs.declared.implicit_model.Model.{Model as Record}
-use Rattle.model.specs.declared.find.Found.{Found}
-use Rattle.model.specs.declared.find.Found.the-variants.{At, Nothing}
+use Rattle.held.specs.declared.find.Found.{Found}
+use Rattle.held.specs.declared.find.Found.the-variants.{At, Nothing}
 use Rattle.model.specs.Table.{held}
 use Rattle.model.specs.Model.{Model}
 use Rattle.model.specs.Edit.{addConstant, addFunction, made, Outcome, edit, addPlain, full}
 use Rattle.model.specs.View.{componentsOf, view, passes}
-use Rattle.model.specs.Search.{Sought}
-use Rattle.model.proofs.Laws.Standing.{standing}
+use Rattle.held.specs.Search.{Sought}
+use Rattle.held.proofs.Laws.Standing.{standing}
 use Rattle.edit.specs.declared.Edited.{Edited}
 use Rattle.edit.specs.Ends.{Ends, Refused}
 use Rattle.edit.proofs.Laws.Step.{Step, skip, stop, finish-made, meets-on, meets-7}

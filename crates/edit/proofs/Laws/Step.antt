@@ -13,7 +13,7 @@ use Rattle.model.specs.Edit.{Edit, done, made, refused, Outcome, refuse, check,
 use Rattle.model.specs.Answer.{answerOf}
 use Rattle.model.specs.View.{view, passes}
 use Rattle.model.proofs.Laws.Bool.{T→true}
-use Rattle.model.proofs.Laws.Standing.{Standing, passes-valid, stands-passes}
+use Rattle.held.proofs.Laws.Standing.{Standing, passes-valid, stands-passes}
 use Rattle.model.proofs.Theorems.Keep.{apply-valid}
 use Rattle.edit.specs.declared.Edited.{Edited}
 use Rattle.edit.specs.Meets.{defined, Meets}

@@ -17,10 +17,10 @@ use Rattle.model.specs.Table.{Table, find, put, distinct}
 use Rattle.model.specs.Model.{Place, Same}
 use Rattle.model.specs.View.{every, rows, componentOf, listOf, entryFits, listFits, view}
 use Rattle.model.proofs.Laws.Bool.{and-T₁, and-T₂}
-use Rattle.model.proofs.Laws.Rows.{rows-length, rows-set, rows-at, rows-more}
-use Rattle.model.proofs.Laws.Search.{RowAt}
-use Rattle.model.proofs.Laws.Changes.{Becomes, becomes-refl, appended, overwritten}
-use Rattle.model.proofs.Laws.Standing.{Standing, same-view, every-set, every-more}
+use Rattle.held.proofs.Laws.Rows.{rows-length, rows-set, rows-at, rows-more}
+use Rattle.held.proofs.Laws.Search.{RowAt}
+use Rattle.held.proofs.Laws.Changes.{Becomes, becomes-refl, appended, overwritten}
+use Rattle.held.proofs.Laws.Standing.{Standing, same-view, every-set, every-more}
 use Rattle.edit.specs.Rows.{withEntry, withList}
 
 -- the table after it: what it holds, and that its rows fit

@@ -12,15 +12,15 @@ use Rattle.tag.specs.Tags.{Tag, overlong}
 use Rattle.tag.specs.View.{bytesOf, Labelled, Made}
 use Rattle.tag.proofs.Laws.View.{length-short, made-whole}
 use Rattle.model.specs.declared.implicit_model.Model.{Model as Record}
-use Rattle.model.specs.declared.find.Found.{Found}
-use Rattle.model.specs.declared.find.Found.the-variants.{At, Nothing}
+use Rattle.held.specs.declared.find.Found.{Found}
+use Rattle.held.specs.declared.find.Found.the-variants.{At, Nothing}
 use Rattle.model.specs.Table.{Table, find, held}
 use Rattle.model.specs.Edit.{full}
 use Rattle.model.specs.View.{rows, componentOf, componentsOf, view}
-use Rattle.model.specs.Search.{Sought}
+use Rattle.held.specs.Search.{Sought}
 use Rattle.model.proofs.Laws.Table.{held-false}
-use Rattle.model.proofs.Laws.Rows.{rows-length}
-use Rattle.model.proofs.Laws.Search.{position-held, position-free, row-at, RowAt}
+use Rattle.held.proofs.Laws.Rows.{rows-length}
+use Rattle.held.proofs.Laws.Search.{position-held, position-free, row-at, RowAt}
 use Rattle.edit.specs.declared.Edited.{Edited}
 use Rattle.edit.specs.Ends.{Refused}
 

@@ -19,16 +19,16 @@ use Rattle.tag.specs.declared.Tag.{Tag as Label}
 use Rattle.geometry.specs.declared.vec3f.Vec3.{Vec3}
 use Rattle.component.specs.Value.{compute}
 use Rattle.model.specs.declared.implicit_model.Model.{Model as Record}
-use Rattle.model.specs.declared.find.Found.the-variants.{At}
+use Rattle.held.specs.declared.find.Found.the-variants.{At}
 use Rattle.model.specs.declared.model_error.ModelError.{ModelError}
 use Rattle.model.specs.declared.model_error.ModelError.the-variants.{InvalidModel}
 use Rattle.model.specs.Answer.{numberOf}
 use Rattle.model.specs.Model.{Place, Model, component, inputs, valid}
 use Rattle.model.specs.Form.{Wire, Compiles, Placed, start, then, Order, ordered, stopped, Compiled, order, refusal, value, Number, worked, Numbers, nothing, another, bits, handed, Evaluated, number, refused-by}
 use Rattle.model.specs.View.{componentOf, componentsOf, view, passes}
-use Rattle.model.specs.Search.{position}
-use Rattle.model.proofs.Laws.Rows.{no-entry, rows-length}
-use Rattle.model.proofs.Laws.Standing.{Standing, standing}
+use Rattle.held.specs.Search.{position}
+use Rattle.held.proofs.Laws.Rows.{no-entry, rows-length}
+use Rattle.held.proofs.Laws.Standing.{Standing, standing}
 use Rattle.graph.specs.declared.computation_graph.Compiling.{Compiling}
 use Rattle.graph.specs.declared.computation_graph.Compiling.the-variants.{Ordered, Refused}
 use Rattle.graph.specs.declared.computation_graph.CompiledGraph.{CompiledGraph}

@@ -16,8 +16,8 @@ use Rattle.tag.specs.View.{bytesOf}
 use Rattle.tag.specs.declared.Tag.{Tag as Label}
 use Rattle.tag.proofs.Laws.Order.{before-irrefl}
 use Rattle.model.specs.declared.implicit_model.Model.{Model as Record}
-use Rattle.model.specs.declared.find.Found.{Found}
-use Rattle.model.specs.declared.find.Found.the-variants.{At, Nothing}
+use Rattle.held.specs.declared.find.Found.{Found}
+use Rattle.held.specs.declared.find.Found.the-variants.{At, Nothing}
 use Rattle.model.specs.declared.model_error.ModelError.{ModelError}
 use Rattle.model.specs.declared.model_error.ModelError.the-variants.{InvalidModel}
 use Rattle.model.specs.Answer.{numberOf}
@@ -25,10 +25,10 @@ use Rattle.model.specs.Model.{Place, inputs, valid}
 use Rattle.model.specs.Walk.{gap}
 use Rattle.model.specs.Form.{Wire, Reach, here, along, Cyclic, Absent, Gapped, Compiles, Refuses, long, cyclic, absent, gapped, Order, Compiled, order, refusal}
 use Rattle.model.specs.View.{placeOf, rows, componentOf, componentsOf, listsOf, view, passes}
-use Rattle.model.specs.Search.{position}
+use Rattle.held.specs.Search.{position}
 use Rattle.model.proofs.Laws.Bool.{T→true, true→T}
-use Rattle.model.proofs.Laws.Rows.{no-entry, no-list, rows-at}
-use Rattle.model.proofs.Laws.Standing.{Standing, standing, passes-valid}
+use Rattle.held.proofs.Laws.Rows.{no-entry, no-list, rows-at}
+use Rattle.held.proofs.Laws.Standing.{Standing, standing, passes-valid}
 use Rattle.graph.specs.declared.least.Best.{Best}
 use Rattle.graph.specs.declared.computation_graph.Compiling.{Compiling}
 use Rattle.graph.specs.declared.computation_graph.CompiledGraph.{CompiledGraph}

@@ -17,17 +17,17 @@ use Rattle.tag.specs.declared.Tag.{Tag as Label}
 use Rattle.tag.proofs.Laws.Is.{is-true}
 use Rattle.model.specs.declared.implicit_model.InputList.{InputList}
 use Rattle.model.specs.declared.implicit_model.Model.{Model as Record}
-use Rattle.model.specs.declared.find.Found.{Found}
-use Rattle.model.specs.declared.find.Found.the-variants.{At, Nothing}
+use Rattle.held.specs.declared.find.Found.{Found}
+use Rattle.held.specs.declared.find.Found.the-variants.{At, Nothing}
 use Rattle.model.specs.Model.{Place, list, inputs}
 use Rattle.model.specs.View.{placeOf, rows, componentOf, listOf, componentsOf, listsOf, view, passes}
-use Rattle.model.specs.Search.{position}
+use Rattle.held.specs.Search.{position}
 use Rattle.model.proofs.Laws.Bool.{T→true}
 use Rattle.model.proofs.Laws.Places.{good-three}
-use Rattle.model.proofs.Laws.Rows.{no-entry, no-list, rows-length, rows-at}
-use Rattle.model.proofs.Laws.Standing.{Standing, standing, passes-valid}
+use Rattle.held.proofs.Laws.Rows.{no-entry, no-list, rows-length, rows-at}
+use Rattle.held.proofs.Laws.Standing.{Standing, standing, passes-valid}
 use Rattle.model.proofs.Laws.Valid.{good}
-use Rattle.model.proofs.Laws.Changes.{rows-apart}
+use Rattle.held.proofs.Laws.Changes.{rows-apart}
 use Rattle.graph.specs.declared.wiring.Slot.{Slot}
 use Rattle.graph.specs.Wiring.{look, fixed, placeWant, wantOf, slotOf, nodeOf, settled, settleOf, slots, Resolved, Owned, Wired}
 use Rattle.graph.proofs.Laws.Node.{nameOf, position-at, node-hit, name-node, listed-node, list-row, unlisted}

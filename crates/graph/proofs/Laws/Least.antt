@@ -18,7 +18,7 @@ use Rattle.model.specs.declared.implicit_model.Model.{Model as Record}
 use Rattle.model.specs.Model.{Place}
 use Rattle.model.specs.View.{placeOf, rows}
 use Rattle.model.specs.Walk.{gap}
-use Rattle.model.proofs.Laws.Rows.{no-list}
+use Rattle.held.proofs.Laws.Rows.{no-list}
 use Rattle.graph.specs.declared.least.Best.{Best}
 use Rattle.graph.specs.declared.wiring.Slot.{Slot}
 use Rattle.graph.specs.Wiring.{Want, look, fixed, placeWant, wantOf, slotOf, nodeOf, settled}

@@ -13,7 +13,7 @@ use Rattle.model.specs.Model.{Place, inputs}
 use Rattle.model.specs.Form.{Wire, Reach, here, along, Cyclic, Placed, start, then, Order}
 use Rattle.model.specs.View.{view}
 use Rattle.model.proofs.Laws.Reach.{reach-on}
-use Rattle.model.proofs.Laws.Standing.{Standing}
+use Rattle.held.proofs.Laws.Standing.{Standing}
 use Rattle.graph.specs.Nodes.{_∈_, Reaches, itself, wired, Circular, IsOrder, inputsOf}
 use Rattle.graph.specs.Wiring.{Want, look, fixed, placeWant, nodeOf, settled}
 use Rattle.graph.proofs.Laws.Order.{by-placing}

@@ -11,18 +11,18 @@ use borrow.Author.Tests.{lt-ltb, le-ltb}
 use Rattle.tag.specs.Tags.{Tag}
 use Rattle.tag.specs.View.{bytesOf}
 use Rattle.model.specs.declared.implicit_model.Model.{Model as Record}
-use Rattle.model.specs.declared.find.Found.{Found}
-use Rattle.model.specs.declared.find.Found.the-variants.{At, Nothing}
+use Rattle.held.specs.declared.find.Found.{Found}
+use Rattle.held.specs.declared.find.Found.the-variants.{At, Nothing}
 use Rattle.model.specs.Table.{Table, find, distinct}
 use Rattle.model.specs.Model.{Place, component, list, inputs}
 use Rattle.model.specs.View.{componentOf, listOf, componentsOf, listsOf, view}
-use Rattle.model.specs.Search.{position}
-use Rattle.model.proofs.Laws.Rows.{no-entry, no-list}
+use Rattle.held.specs.Search.{position}
+use Rattle.held.proofs.Laws.Rows.{no-entry, no-list}
 use Rattle.model.proofs.Laws.Table.{held-false}
-use Rattle.model.proofs.Laws.Search.{RowAt, row-at, row, position-free}
-use Rattle.model.proofs.Laws.Standing.{Standing}
+use Rattle.held.proofs.Laws.Search.{RowAt, row-at, row, position-free}
+use Rattle.held.proofs.Laws.Standing.{Standing}
 use Rattle.model.proofs.Laws.Valid.{none-some}
-use Rattle.model.proofs.Laws.Changes.{find-at, rows-apart}
+use Rattle.held.proofs.Laws.Changes.{find-at, rows-apart}
 use Rattle.graph.specs.Wiring.{nodeAt, nodeOf}
 
 -- ---- a search of a table in which no tag stands twice finds the row that has the tag

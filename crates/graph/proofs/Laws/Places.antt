@@ -13,7 +13,7 @@ use Rattle.tag.specs.declared.Tag.{Tag as Label}
 use Rattle.model.specs.declared.implicit_model.InputList.{InputList}
 use Rattle.model.specs.Model.{Place}
 use Rattle.model.specs.View.{placeOf, rows}
-use Rattle.model.proofs.Laws.Rows.{no-place, rows-length, rows-at}
+use Rattle.held.proofs.Laws.Rows.{no-place, rows-length, rows-at}
 use Rattle.model.proofs.Laws.Valid.{some-some, none-some}
 use Rattle.graph.specs.Wiring.{Want, look, fixed, placeWant, wantOf, slotOf}
 

@@ -12,7 +12,7 @@ use Rattle.model.specs.declared.implicit_model.Model.{Model as Record}
 use Rattle.model.specs.Table.{Table}
 use Rattle.model.specs.Model.{Place, Model, new, valid}
 use Rattle.model.specs.View.{placeOf, componentOf, componentsOf, listOf, listsOf, view, rows, every, placeFits, entryFits, listFits, fits, passes}
-use Rattle.model.specs.Reading.{New}
+use Rattle.held.specs.Reading.{New}
 use Rattle.layout.specs.Words.{word}
 use Rattle.layout.specs.EditRows.{isSome}
 use Rattle.model_bytes.specs.declared.decode.Decoded.{Decoded}

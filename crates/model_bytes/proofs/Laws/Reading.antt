@@ -19,7 +19,7 @@ use Rattle.component.specs.declared.model_component.Component.{Component}
 use Rattle.model.specs.declared.implicit_model.InputList.{InputList}
 use Rattle.model.specs.Model.{Place}
 use Rattle.model.specs.View.{rows, every, placeOf, placeFits, listFits}
-use Rattle.model.proofs.Laws.Rows.{rows-more}
+use Rattle.held.proofs.Laws.Rows.{rows-more}
 use Rattle.layout.specs.Words.{word}
 use Rattle.layout.specs.Components.{componentFrom}
 use Rattle.layout.specs.declared.component_numbers.ComponentWords.{ComponentWords}

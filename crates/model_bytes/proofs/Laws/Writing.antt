@@ -17,7 +17,7 @@ use Rattle.model.specs.declared.implicit_model.Place.{Place as PlaceRecord}
 use Rattle.model.specs.declared.implicit_model.ComponentEntry.{ComponentEntry}
 use Rattle.model.specs.declared.implicit_model.InputList.{InputList}
 use Rattle.model.specs.View.{rows, every, placeOf, placeFits, componentOf, listOf}
-use Rattle.model.proofs.Laws.Rows.{no-place, no-entry, no-list, rows-length, rows-at, rows-more}
+use Rattle.held.proofs.Laws.Rows.{no-place, no-entry, no-list, rows-length, rows-at, rows-more}
 use Rattle.layout.specs.Words.{word}
 use Rattle.layout.specs.Writing.{Kept, putWord}
 use Rattle.layout.specs.declared.component_numbers.ComponentWords.{ComponentWords}

@@ -17,8 +17,8 @@ use Rattle.model.specs.Model.{Place, Model, Same}
 use Rattle.model.specs.Edit.{swap}
 use Rattle.model.specs.View.{placeOf, rows, componentOf, componentsOf, listsOf, every, placeFits, entryFits, view}
 use Rattle.model.proofs.Laws.Bool.{true→T}
-use Rattle.model.proofs.Laws.Changes.{Becomes, becomes-each}
-use Rattle.model.proofs.Laws.Standing.{Standing, same-view}
+use Rattle.held.proofs.Laws.Changes.{Becomes, becomes-each}
+use Rattle.held.proofs.Laws.Standing.{Standing, same-view}
 use Rattle.removing.specs.Swapping.{PlacesSwapped}
 
 pub record Holds (w : Model) (n : Record) : Type 0 where

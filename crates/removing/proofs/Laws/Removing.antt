@@ -10,17 +10,17 @@ use Rattle.tag.specs.Tags.{Tag, empty, overlong}
 use Rattle.tag.specs.View.{bytesOf, Labelled, Made}
 use Rattle.model.specs.declared.implicit_model.Model.{Model as Record}
 use Rattle.model.specs.declared.implicit_model.Place.{Place as PlaceRecord}
-use Rattle.model.specs.declared.find.Found.{Found}
-use Rattle.model.specs.declared.find.Found.the-variants.{At, Nothing}
+use Rattle.held.specs.declared.find.Found.{Found}
+use Rattle.held.specs.declared.find.Found.the-variants.{At, Nothing}
 use Rattle.model.specs.Table.{held, cut}
 use Rattle.model.specs.Model.{Place, Model}
 use Rattle.model.specs.Edit.{removeComponent, done, edit, without, remove}
 use Rattle.model.specs.View.{placeOf, componentOf, componentsOf, listsOf, entryFits, view, passes}
-use Rattle.model.specs.Search.{Sought}
-use Rattle.model.proofs.Laws.Rows.{no-entry}
-use Rattle.model.proofs.Laws.Search.{RowAt}
-use Rattle.model.proofs.Laws.Changes.{becomes-refl}
-use Rattle.model.proofs.Laws.Standing.{Standing, standing}
+use Rattle.held.specs.Search.{Sought}
+use Rattle.held.proofs.Laws.Rows.{no-entry}
+use Rattle.held.proofs.Laws.Search.{RowAt}
+use Rattle.held.proofs.Laws.Changes.{becomes-refl}
+use Rattle.held.proofs.Laws.Standing.{Standing, standing}
 use Rattle.edit.specs.declared.Edited.{Edited}
 use Rattle.edit.specs.Meets.{Meets}
 use Rattle.edit.specs.Ends.{Ends, Refused}

@@ -9,8 +9,8 @@ use native.Mathlib.Omega.{arith}
 use lib.Dec.{T}
 use lib.ListN.{length, getD, set, length-set}
 use Rattle.model.specs.View.{rows, every}
-use Rattle.model.proofs.Laws.Rows.{rows-length, rows-at, rows-set}
-use Rattle.model.proofs.Laws.Standing.{every-set}
+use Rattle.held.proofs.Laws.Rows.{rows-length, rows-at, rows-set}
+use Rattle.held.proofs.Laws.Standing.{every-set}
 use Rattle.edit.proofs.Laws.Stored.{row-fits}
 
 -- the list with its first i entries changed

@@ -9,10 +9,10 @@ use lib.ListN.{length, take, getD, set}
 use Rattle.tag.specs.Tags.{Tag}
 use Rattle.model.specs.Table.{Table, cut, distinct}
 use Rattle.model.specs.View.{rows, every}
-use Rattle.model.proofs.Laws.Rows.{rows-length, rows-set, rows-at, rows-less}
-use Rattle.model.proofs.Laws.Search.{RowAt}
-use Rattle.model.proofs.Laws.Changes.{Becomes, removed}
-use Rattle.model.proofs.Laws.Standing.{every-set, every-take}
+use Rattle.held.proofs.Laws.Rows.{rows-length, rows-set, rows-at, rows-less}
+use Rattle.held.proofs.Laws.Search.{RowAt}
+use Rattle.held.proofs.Laws.Changes.{Becomes, removed}
+use Rattle.held.proofs.Laws.Standing.{every-set, every-take}
 use Rattle.edit.proofs.Laws.Stored.{Stored, row-fits}
 
 rows-taken : {A C : Type 0} (g : A → C) (table : List A) (n k i : ℕ) (x : A) → i < n → k ≤ n → rows g k (set table i x) ≡ take k (set (rows g n table) i (g x))

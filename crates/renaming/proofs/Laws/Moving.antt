@@ -15,19 +15,19 @@ use Rattle.tag.specs.View.{bytesOf, tagFits}
 use Rattle.tag.proofs.Laws.Is.{same?}
 use Rattle.model.specs.declared.implicit_model.InputList.{InputList}
 use Rattle.model.specs.declared.implicit_model.Model.{Model as Record}
-use Rattle.model.specs.declared.find.Found.{Found}
-use Rattle.model.specs.declared.find.Found.the-variants.{At, Nothing}
+use Rattle.held.specs.declared.find.Found.{Found}
+use Rattle.held.specs.declared.find.Found.the-variants.{At, Nothing}
 use Rattle.model.specs.Table.{Table, find, cut, put, distinct, move}
 use Rattle.model.specs.View.{placeOf, rows, listOf, listsOf, every, placeFits, listFits}
-use Rattle.model.specs.Search.{Sought}
+use Rattle.held.specs.Search.{Sought}
 use Rattle.model.proofs.Laws.Bool.{true→T}
 use Rattle.model.proofs.Laws.Table.{find-cut-same, find-cut-other, find-put-same, find-put-other}
 use Rattle.model.proofs.Laws.Valid.{passed, unpassed}
 use Rattle.model.proofs.Laws.Change.{move-none, move-new, move-old, move-other}
-use Rattle.model.proofs.Laws.Rows.{no-list, rows-length, rows-set, rows-at}
-use Rattle.model.proofs.Laws.Search.{RowAt}
-use Rattle.model.proofs.Laws.Changes.{Becomes, move-free}
-use Rattle.model.proofs.Laws.Standing.{Standing, standing, every-set}
+use Rattle.held.proofs.Laws.Rows.{no-list, rows-length, rows-set, rows-at}
+use Rattle.held.proofs.Laws.Search.{RowAt}
+use Rattle.held.proofs.Laws.Changes.{Becomes, move-free}
+use Rattle.held.proofs.Laws.Standing.{Standing, standing, every-set}
 use Rattle.edit.specs.Rows.{withList}
 use Rattle.edit.proofs.Laws.Stored.{Stored, over-row, row-fits}
 use Rattle.edit.proofs.Laws.Tests.{missing, found-row}

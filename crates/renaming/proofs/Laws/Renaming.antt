@@ -12,17 +12,17 @@ use Rattle.component.specs.declared.model_component.Component.{Component}
 use Rattle.model.specs.declared.implicit_model.ComponentEntry.{ComponentEntry}
 use Rattle.model.specs.declared.implicit_model.Model.{Model as Record}
 use Rattle.model.specs.declared.implicit_model.Place.{Place as PlaceRecord}
-use Rattle.model.specs.declared.find.Found.{Found}
-use Rattle.model.specs.declared.find.Found.the-variants.{At, Nothing}
+use Rattle.held.specs.declared.find.Found.{Found}
+use Rattle.held.specs.declared.find.Found.the-variants.{At, Nothing}
 use Rattle.model.specs.Table.{Table, held, move}
 use Rattle.model.specs.Model.{Place, Model}
 use Rattle.model.specs.Edit.{renameComponent, made, edit, renamed, rename}
 use Rattle.model.specs.View.{placeOf, rows, componentOf, componentsOf, listsOf, every, placeFits, entryFits, view, passes}
-use Rattle.model.specs.Search.{Sought}
+use Rattle.held.specs.Search.{Sought}
 use Rattle.model.proofs.Laws.Bool.{true→T}
-use Rattle.model.proofs.Laws.Rows.{no-entry}
-use Rattle.model.proofs.Laws.Changes.{Becomes}
-use Rattle.model.proofs.Laws.Standing.{standing}
+use Rattle.held.proofs.Laws.Rows.{no-entry}
+use Rattle.held.proofs.Laws.Changes.{Becomes}
+use Rattle.held.proofs.Laws.Standing.{standing}
 use Rattle.edit.specs.declared.Edited.{Edited}
 use Rattle.edit.specs.Meets.{Meets}
 use Rattle.edit.specs.Ends.{Ends, Refused}

@@ -10,7 +10,7 @@ use Rattle.renaming.proofs.list_moved.Tie as tie
 use Rattle.renaming.proofs.list_moved.Reads as reads
 use Rattle.renaming.proofs.list_moved.Lts as lts
 use Rattle.edit.proofs.rows.with_list.Reads as with-list-reads
-use Rattle.model.proofs.find.find_list.Reads as find-list-reads
+use Rattle.held.proofs.find.find_list.Reads as find-list-reads
 use Rattle.renaming.proofs.list_under.Reads as list-under-reads
 use Rattle.renaming.proofs.without_list.Reads as without-list-reads
 

@@ -15,15 +15,15 @@ use Rattle.component.specs.declared.model_component.Setting.the-variants.{Chang
 use Rattle.component.specs.declared.model_component.Component.{Component}
 use Rattle.model.specs.declared.implicit_model.ComponentEntry.{ComponentEntry}
 use Rattle.model.specs.declared.implicit_model.Model.{Model as Record}
-use Rattle.model.specs.declared.find.Found.{Found}
-use Rattle.model.specs.declared.find.Found.the-variants.{At, Nothing}
+use Rattle.held.specs.declared.find.Found.{Found}
+use Rattle.held.specs.declared.find.Found.the-variants.{At, Nothing}
 use Rattle.model.specs.Model.{component}
 use Rattle.model.specs.Edit.{setParameter, done, edit, setAt, setIn, settle}
 use Rattle.model.specs.View.{componentOf, componentsOf, entryFits, view, passes}
-use Rattle.model.specs.Search.{Sought}
+use Rattle.held.specs.Search.{Sought}
 use Rattle.model.proofs.Laws.Bool.{true→T}
-use Rattle.model.proofs.Laws.Search.{RowAt}
-use Rattle.model.proofs.Laws.Standing.{standing}
+use Rattle.held.proofs.Laws.Search.{RowAt}
+use Rattle.held.proofs.Laws.Standing.{standing}
 use Rattle.edit.specs.declared.Edited.{Edited}
 use Rattle.edit.specs.Meets.{Meets}
 use Rattle.edit.specs.Ends.{Ends, Refused}

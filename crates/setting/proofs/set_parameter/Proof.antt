@@ -5,7 +5,7 @@ use mathlib.Core.Path.{sym, _∙_, subst}
 use borrow.Author.Tests.{not-true, not-false}
 use Rattle.model.specs.declared.implicit_model.Model.{Model as Record}
 use Rattle.model.specs.Edit.{done}
-use Rattle.model.proofs.Laws.Rows.{no-entry}
+use Rattle.held.proofs.Laws.Rows.{no-entry}
 use Rattle.edit.specs.Ends.{Ends}
 use Rattle.edit.proofs.Laws.Step.{meets-7}
 use Rattle.setting.proofs.Laws.Setting.{set-1, set-12, set-4, set-5, set-done}

@@ -12,7 +12,7 @@ use Rattle.model.specs.Edit.{Edit, Answer, Outcome, apply}
 use Rattle.model.specs.Form.{Compiles, Number, Reply, bits, handed, Evaluated}
 use Rattle.model.specs.Steady.{Agrees, Spares, Run, stop, step}
 use Rattle.model.specs.View.{view, passes}
-use Rattle.model.proofs.Laws.Standing.{passes-valid}
+use Rattle.held.proofs.Laws.Standing.{passes-valid}
 use Rattle.model.proofs.Theorems.Keep.{apply-valid}
 use Rattle.model.proofs.Theorems.Positions.{apply-alike}
 use Rattle.model.proofs.Theorems.Agree.{evaluated-agrees}

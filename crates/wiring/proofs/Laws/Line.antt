@@ -21,13 +21,13 @@ use Rattle.model.specs.Table.{Table, find, distinct}
 use Rattle.model.specs.Model.{Place}
 use Rattle.model.specs.View.{placeOf, rows, listOf, listsOf, view, passes}
 use Rattle.model.specs.Walk.{Walked, clear, met, gapped, walk, walkFrom, total}
-use Rattle.model.proofs.Laws.Rows.{rows-length, rows-at}
-use Rattle.model.specs.declared.find.Found.{Found}
-use Rattle.model.specs.declared.find.Found.the-variants.{At}
-use Rattle.model.specs.Search.{Sought}
-use Rattle.model.proofs.Laws.Search.{row}
-use Rattle.model.proofs.Laws.Changes.{find-at, rows-apart}
-use Rattle.model.proofs.Laws.Standing.{standing}
+use Rattle.held.proofs.Laws.Rows.{rows-length, rows-at}
+use Rattle.held.specs.declared.find.Found.{Found}
+use Rattle.held.specs.declared.find.Found.the-variants.{At}
+use Rattle.held.specs.Search.{Sought}
+use Rattle.held.proofs.Laws.Search.{row}
+use Rattle.held.proofs.Laws.Changes.{find-at, rows-apart}
+use Rattle.held.proofs.Laws.Standing.{standing}
 use Rattle.model.proofs.Theorems.Walk.{walk-ends}
 use Rattle.wiring.specs.declared.Line.{Line}
 use Rattle.wiring.specs.Walking.{Row, Counted, started, pushed, Joined, absent, again, joins, Walkable, Startable, tagAt, Walks, Wires, Says, says-clear, says-met, says-gap}

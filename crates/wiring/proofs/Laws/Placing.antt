@@ -14,10 +14,10 @@ use Rattle.model.specs.declared.implicit_model.Place.{Place as PlaceRecord}
 use Rattle.model.specs.Table.{put}
 use Rattle.model.specs.Model.{Place}
 use Rattle.model.specs.View.{every, placeOf, rows, listOf, listsOf, placeFits, listFits}
-use Rattle.model.proofs.Laws.Rows.{rows-set, rows-length}
-use Rattle.model.proofs.Laws.Search.{RowAt}
+use Rattle.held.proofs.Laws.Rows.{rows-set, rows-length}
+use Rattle.held.proofs.Laws.Search.{RowAt}
 use Rattle.model.proofs.Laws.Valid.{passed, unpassed}
-use Rattle.model.proofs.Laws.Standing.{Standing, every-set}
+use Rattle.held.proofs.Laws.Standing.{Standing, every-set}
 use Rattle.edit.proofs.Laws.Stored.{Stored, over-row, row-fits}
 use Rattle.wiring.specs.Placing.{placedAt}
 

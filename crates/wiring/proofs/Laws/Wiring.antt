@@ -13,17 +13,17 @@ use Rattle.tag.specs.View.{bytesOf, Labelled, Made}
 use Rattle.model.specs.declared.implicit_model.InputList.{InputList}
 use Rattle.model.specs.declared.implicit_model.Model.{Model as Record}
 use Rattle.model.specs.declared.implicit_model.Place.{Place as PlaceRecord}
-use Rattle.model.specs.declared.find.Found.{Found}
-use Rattle.model.specs.declared.find.Found.the-variants.{At, Nothing}
+use Rattle.held.specs.declared.find.Found.{Found}
+use Rattle.held.specs.declared.find.Found.the-variants.{At, Nothing}
 use Rattle.model.specs.Table.{held}
 use Rattle.model.specs.Model.{Place, list}
 use Rattle.model.specs.Edit.{addInput, removeInput, done, edit, withList as wired, walked, wireIn, addWire, unwireIn, removeWire}
 use Rattle.model.specs.View.{placeOf, rows, componentsOf, listOf, listsOf, placeFits, view, passes}
-use Rattle.model.specs.Search.{Sought}
+use Rattle.held.specs.Search.{Sought}
 use Rattle.model.specs.Walk.{Walked, clear, met, gapped, walkFrom}
 use Rattle.model.proofs.Laws.Bool.{true→T}
-use Rattle.model.proofs.Laws.Search.{RowAt}
-use Rattle.model.proofs.Laws.Standing.{standing}
+use Rattle.held.proofs.Laws.Search.{RowAt}
+use Rattle.held.proofs.Laws.Standing.{standing}
 use Rattle.edit.specs.declared.Edited.{Edited}
 use Rattle.edit.specs.Meets.{Meets}
 use Rattle.edit.specs.Ends.{Ends, Refused}

@@ -3,7 +3,7 @@ use native.Mathlib.Omega.{arith}
 use borrow.Author.Needs.{needs}
 use mathlib.Core.Path.{sym, _∙_}
 use borrow.Author.Tests.{not-true, not-false}
-use Rattle.model.proofs.Laws.Rows.{no-list}
+use Rattle.held.proofs.Laws.Rows.{no-list}
 use Rattle.edit.proofs.Laws.Step.{meets-7}
 use Rattle.wiring.proofs.Laws.Line.{sought-row}
 use Rattle.wiring.proofs.Laws.Wiring.{add-1, add-1-source, add-12, add-12-source, add-12-list, add-3, add-14, add-13, add-done, gap-below}

@@ -6,7 +6,7 @@ use borrow.Author.Tests.{not-true, not-false}
 use Rattle.model.specs.declared.implicit_model.InputList.{InputList}
 use Rattle.model.specs.declared.implicit_model.Model.{Model as Record}
 use Rattle.model.specs.Edit.{done}
-use Rattle.model.proofs.Laws.Rows.{no-list}
+use Rattle.held.proofs.Laws.Rows.{no-list}
 use Rattle.edit.specs.Ends.{Ends}
 use Rattle.edit.specs.Rows.{withList}
 use Rattle.edit.proofs.Laws.Step.{meets-7}

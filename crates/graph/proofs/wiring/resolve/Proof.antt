@@ -5,7 +5,7 @@ use Prim.Native.Nat.{_*_, _-_, _%_, min}
 use mathlib.Core.Path.{_≡_, ap, _∙_}
 use mathlib.Core.Logic.{⊎-elim}
 use lib.ListN.{length, length-map}
-use Rattle.model.proofs.Laws.Standing.{standing}
+use Rattle.held.proofs.Laws.Standing.{standing}
 use Rattle.graph.proofs.Laws.Drawing.{Upto, upto-start, upto-more, upto-end, settle-fast, settle-slow}
 use Rattle.graph.proofs.wiring.resolve.Statement.{statement}
 use Rattle.graph.proofs.wiring.resolve.Tie as tie

@@ -2,7 +2,7 @@
 use borrow.Author.Needs.{needs}
 use mathlib.Core.Path.{_≡_}
 use lib.ListN.{length, length-map}
-use Rattle.model.proofs.Laws.Standing.{standing}
+use Rattle.held.proofs.Laws.Standing.{standing}
 use Rattle.graph.proofs.Laws.Drawing.{node-fast}
 use Rattle.graph.proofs.wiring.target_node.Statement.{statement}
 use Rattle.graph.proofs.wiring.target_node.Tie as tie

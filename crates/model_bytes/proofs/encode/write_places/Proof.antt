@@ -5,7 +5,7 @@ use mathlib.Core.Option.{some}
 use native.Mathlib.Omega.{arith}
 use lib.ListN.{length, length-map}
 use Rattle.model.specs.View.{rows, placeOf, placeFits}
-use Rattle.model.proofs.Laws.Rows.{no-place}
+use Rattle.held.proofs.Laws.Rows.{no-place}
 use Rattle.model_bytes.specs.ModelBytes.{rowsIn, placeRow}
 use Rattle.model_bytes.specs.Steps.{Wrote}
 use Rattle.model_bytes.proofs.Laws.Sizes.{listed}

@@ -7,7 +7,7 @@ use borrow.Author.Tests.{le-leb, lt-leb}
 use lib.ListN.{drop}
 use Rattle.tag.specs.View.{tagFits}
 use Rattle.model.specs.View.{rows, every, componentOf, entryFits}
-use Rattle.model.proofs.Laws.Rows.{rows-next, rows-length, every-hit, every-miss, every-end}
+use Rattle.held.proofs.Laws.Rows.{rows-next, rows-length, every-hit, every-miss, every-end}
 use Rattle.model_bytes.proofs.sizes.components_fit.Statement.{statement}
 use Rattle.model_bytes.proofs.sizes.components_fit.Tie as tie
 

@@ -12,7 +12,7 @@ use Rattle.removing.proofs.swapping.list_swapped.Statement.{statement}
 use Rattle.removing.proofs.swapping.list_swapped.Tie as tie
 use Rattle.removing.proofs.swapping.list_swapped.Reads as reads
 use Rattle.removing.proofs.swapping.list_swapped.Lts as lts
-use Rattle.model.proofs.find.places_held.Reads as places-held-reads
+use Rattle.held.proofs.find.places_held.Reads as places-held-reads
 use Rattle.removing.proofs.swapping.place_swapped.Reads as place-swapped-reads
 
 abbrev Inv-loop : tie.InvT-loop

@@ -12,7 +12,7 @@ use Rattle.removing.proofs.swapping.places_swapped.Statement.{statement
 use Rattle.removing.proofs.swapping.places_swapped.Tie as tie
 use Rattle.removing.proofs.swapping.places_swapped.Reads as reads
 use Rattle.removing.proofs.swapping.places_swapped.Lts as lts
-use Rattle.model.proofs.find.lists_held.Reads as lists-held-reads
+use Rattle.held.proofs.find.lists_held.Reads as lists-held-reads
 use Rattle.removing.proofs.swapping.list_swapped.Reads as list-swapped-reads
 use Rattle.removing.proofs.swapping.place_swapped.Reads as place-swapped-reads
 

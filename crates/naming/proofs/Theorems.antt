@@ -1,0 +1,2 @@
+-- `Listed`: each parameter that a component lists can be read, and is what the list says.
+pub mod Listed
