@@ -46,7 +46,7 @@ pub fn empty_tag() -> Tag
     Tag { bytes: b, len: 0 }
 }
 
-// Whether two tags are the same bytes: most differ in length or early, so lengths come first.
+// Whether two tags are the same bytes. Tags of one length mostly differ near their end, as numbered ones do, so bytes are compared from there.
 pub fn same_tag(a: Tag, b: Tag) -> bool
     ensures { λ r. ⌜ r ≡ is (bytesOf a) (bytesOf b) ⌝ }
 {
@@ -55,12 +55,12 @@ pub fn same_tag(a: Tag, b: Tag) -> bool
     if n != k {
         return false;
     }
-    let mut i: usize = 0;
-    while i < n {
+    let mut i = n;
+    while 0 < i {
+        i -= 1;
         if a.bytes[i] != b.bytes[i] {
             return false;
         }
-        i += 1;
     }
     true
 }

@@ -1,5 +1,5 @@
--- Two byte strings compared byte by byte from the front: what `is` and `before` say of what is left at an index. Assumes nothing.
-use mathlib.Core.Path.{_≡_, refl, ap}
+-- Two byte strings compared byte by byte: what `before` says of what is left at an index, and what stands from an index on. Assumes nothing.
+use mathlib.Core.Path.{_≡_, refl, sym, ap, ap₂, subst, _∙_}
 use mathlib.Core.Bool.{true, false, and-false, or-false}
 use mathlib.Core.List.{[], _∷_}
 use Prim.Native.Nat.{ℕ, suc, _+_, _<_, _≤_, min}
@@ -20,26 +20,18 @@ is-length [] (y ∷ ys) h = refl
 is-length (x ∷ xs) [] h = refl
 is-length (x ∷ xs) (y ∷ ys) h = rw (is-length xs ys (λ e. h (ap suc e)), and-false (eqb x y))
 
-pub is-end : (x y : Tag) (i : ℕ) → length x ≤ i → length y ≤ i → is (drop i x) (drop i y) ≡ true
-unfolding is
-is-end x y i h k = rw (drop-of-length-le x h, drop-of-length-le y k)
-
 -- at an index below both lengths
 module _ (x y : Tag) (i : ℕ) (hx : i < length x) (hy : i < length y) where
-  pub is-miss : (getD x i 0 ≡ getD y i 0 → ⊥) → is (drop i x) (drop i y) ≡ false
-  unfolding is
-  is-miss h = rw (drop-cons x i 0 hx, drop-cons y i 0 hy, ne-eqb (getD x i 0) (getD y i 0) h)
-
-  pub is-hit : getD x i 0 ≡ getD y i 0 → is (drop i x) (drop i y) ≡ is (drop (i + 1) x) (drop (i + 1) y)
-  unfolding is
-  is-hit h = rw (drop-cons x i 0 hx, drop-cons y i 0 hy, eq-eqb (getD x i 0) (getD y i 0) h, add-one)
-
   pub before-miss : (getD x i 0 ≡ getD y i 0 → ⊥) → before (drop i x) (drop i y) ≡ ltb (getD x i 0) (getD y i 0)
   unfolding before
   before-miss h = rw (drop-cons x i 0 hx, drop-cons y i 0 hy, ne-eqb (getD x i 0) (getD y i 0) h) (or-false (ltb (getD x i 0) (getD y i 0)))
 
   pub before-hit : getD x i 0 ≡ getD y i 0 → before (drop i x) (drop i y) ≡ before (drop (i + 1) x) (drop (i + 1) y)
   before-hit h = rw (drop-cons x i 0 hx, drop-cons y i 0 hy, add-one) (before-equal (getD x i 0) (getD y i 0) (drop (suc i) x) (drop (suc i) y) h)
+
+-- and what is the same behind the byte at i, which k = i + 1 begins
+pub drop-hit : (x y : Tag) (i k : ℕ) → k ≡ i + 1 → i < length x → i < length y → getD x i 0 ≡ getD y i 0 → drop k x ≡ drop k y → drop i x ≡ drop i y
+drop-hit x y i k e hx hy h b = drop-cons x i 0 hx ∙ ap₂ _∷_ h (subst (λ j. drop j x ≡ drop j y) (e ∙ add-one i) b) ∙ sym (drop-cons y i 0 hy)
 
 some-behind : (y : Tag) (i : ℕ) → i < length y → before [] (drop i y) ≡ true
 unfolding before
