@@ -10,7 +10,7 @@ use model::implicit_model::Model;
 use model::implicit_model::Place;
 ghost use mathlib.Core.Path.{_≡_};
 ghost use Rattle.model.specs.Table.{distinct};
-ghost use Rattle.model.specs.View.{rows, every, placeFits, componentsOf, listsOf, passes};
+ghost use Rattle.model.specs.View.{rows, every, placeFits, componentOf, listOf, componentsOf, listsOf, passes};
 ghost use Rattle.held.specs.Search.{listSound, entrySound, defaultSound};
 
 // Whether a place is unassigned or holds a tag within its size.
@@ -57,13 +57,13 @@ fn list_sound(l: InputList) -> bool
 }
 
 // Whether every input list is sound.
-fn lists_sound(m: Model) -> bool
-    ensures { λ r. ⌜ r ≡ every (rows listSound (m .«list_count») (m .lists)) ⌝ }
+fn lists_sound(table: [InputList; 128], count: usize) -> bool
+    ensures { λ r. ⌜ r ≡ every (rows listSound count table) ⌝ }
 {
-    let n = lists_held(m);
+    let n = tag::at_most(count, 128);
     let mut i: usize = 0;
     while i < n {
-        let l = m.lists[i];
+        let l = table[i];
         if list_sound(l) {
             i += 1;
         } else {
@@ -73,17 +73,17 @@ fn lists_sound(m: Model) -> bool
     true
 }
 
-// Whether no two components have one tag: row i is held against each row j behind it. Both indices run in one loop, since a call for each row would copy the table.
-fn components_distinct(m: Model) -> bool
-    ensures { λ r. ⌜ r ≡ distinct (componentsOf m) ⌝ }
+// Whether no two components have one tag: row i is held against each row j behind it. Both indices run in one loop, since a call for each row would copy the table; and the table is handed over alone, since what a function indexes it copies.
+fn components_distinct(table: [ComponentEntry; 64], count: usize) -> bool
+    ensures { λ r. ⌜ r ≡ distinct (rows componentOf count table) ⌝ }
 {
-    let n = components_held(m);
+    let n = tag::at_most(count, 64);
     let mut i: usize = 0;
     let mut j: usize = 1;
     while i < n {
         if j < n {
-            let a = m.components[i];
-            let b = m.components[j];
+            let a = table[i];
+            let b = table[j];
             let s = a.tag;
             let t = b.tag;
             if tag::same_tag(t, s) {
@@ -99,16 +99,16 @@ fn components_distinct(m: Model) -> bool
 }
 
 // Whether no two input lists have one tag.
-fn lists_distinct(m: Model) -> bool
-    ensures { λ r. ⌜ r ≡ distinct (listsOf m) ⌝ }
+fn lists_distinct(table: [InputList; 128], count: usize) -> bool
+    ensures { λ r. ⌜ r ≡ distinct (rows listOf count table) ⌝ }
 {
-    let n = lists_held(m);
+    let n = tag::at_most(count, 128);
     let mut i: usize = 0;
     let mut k: usize = 1;
     while i < n {
         if k < n {
-            let a = m.lists[i];
-            let b = m.lists[k];
+            let a = table[i];
+            let b = table[k];
             let s = a.tag;
             let t = b.tag;
             if tag::same_tag(t, s) {
@@ -193,16 +193,18 @@ pub fn is_valid(m: Model) -> bool
     if 128 < m.list_count {
         return false;
     }
-    if !lists_sound(m) {
+    let lists = m.lists;
+    if !lists_sound(lists, m.list_count) {
         return false;
     }
     if !components_sound(m) {
         return false;
     }
-    if !components_distinct(m) {
+    let components = m.components;
+    if !components_distinct(components, m.component_count) {
         return false;
     }
-    if !lists_distinct(m) {
+    if !lists_distinct(lists, m.list_count) {
         return false;
     }
     default_sound(m)

@@ -1,37 +1,46 @@
 -- `held::validity::lists_distinct` meets its contract: pairs of rows by `Laws/Pairs.antt`. Assumes nothing.
 use Prim.Native.Nat.{_+_, _*_, _≤_, _-_}
+use mathlib.Core.Path.{_≡_}
 use native.Mathlib.Omega.{arith}
 use borrow.Author.Needs.{needs}
-use Rattle.model.specs.View.{listsOf, listOf}
-use Rattle.held.proofs.Laws.Rows.{no-list, rows-next}
+use lib.ListN.{length}
+use Rattle.model.specs.View.{rows, listOf}
+use Rattle.held.proofs.Laws.Rows.{no-list, rows-next, rows-live}
 use Rattle.held.proofs.Laws.Pairs.{Apart, apart-start, apart-on, apart-pair, apart-next, apart-end}
 use Rattle.held.proofs.validity.lists_distinct.Statement.{statement}
 use Rattle.held.proofs.validity.lists_distinct.Tie as tie
 
 abbrev Inv-loop : tie.InvT-loop
-Inv-loop m n i₀ k₀ i k = Apart (listsOf m) i k × (i ≤ n) × (k ≤ n + 1)
+Inv-loop count table n i₀ k₀ i k = Apart (rows listOf count table) i k × (i ≤ n) × (k ≤ n + 1) × (n ≡ length (rows listOf count table)) × (n ≤ 128)
 
 -- k starts anew at each i
 abbrev μ-loop : tie.MeasureT-loop
-μ-loop m n i₀ k₀ i k = (128 - i) * 130 + (130 - k)
+μ-loop count table n i₀ k₀ i k = (128 - i) * 130 + (130 - k)
 
-lists-held-requires : tie.Need-lists-held-requires Inv-loop μ-loop
-lists-held-requires c κs = search needs
+-- the table has its size
+size : (s : tie.Start Inv-loop μ-loop) → length (s .args .t1) ≡ 128
+size s = search needs
+
+at-most-requires : tie.Need-at-most-requires Inv-loop μ-loop
+at-most-requires c κs = search needs
 
 loop-holds : tie.Need-loop-holds Inv-loop μ-loop
-loop-holds c = (apart-start (listsOf (c .before .args .t1)), omega arith, omega arith)
+loop-holds c =
+    let s = c .before in
+    let live = rows-live listOf (s .args .t1) (s .args .count) 128 (c .at-most .result) (size s) (c .at-most .ensures) in
+    (apart-start (rows listOf (s .args .count) (s .args .t1)), omega arith, omega (arith, live .live), live .live, omega arith)
 
 mul-a : tie.Need-mul-a Inv-loop μ-loop
 mul-a c = omega arith
 
-element-copy-out-a : tie.Need-element-copy-out-a Inv-loop μ-loop
-element-copy-out-a c = omega arith
+array-copy-out-a : tie.Need-array-copy-out-a Inv-loop μ-loop
+array-copy-out-a c = omega arith
 
 mul-b : tie.Need-mul-b Inv-loop μ-loop
 mul-b c = omega arith
 
-element-copy-out-b : tie.Need-element-copy-out-b Inv-loop μ-loop
-element-copy-out-b c = omega arith
+array-copy-out-b : tie.Need-array-copy-out-b Inv-loop μ-loop
+array-copy-out-b c = omega arith
 
 same-tag-requires : tie.Need-same-tag-requires Inv-loop μ-loop
 same-tag-requires c κs = search needs
@@ -39,10 +48,10 @@ same-tag-requires c κs = search needs
 returns : tie.Need-returns Inv-loop μ-loop
 returns c =
     let l = c .before .before .before .before .before .before .before .before in
-    let m = l .before .before .args .t1 in
-    let row-i = rows-next listOf (m .lists) (m .«list_count») (l .loop .i) no-list (omega arith) in
-    let row-k = rows-next listOf (m .lists) (m .«list_count») (l .loop .k) no-list (omega arith) in
-    apart-pair (listsOf m) (l .loop .i) (l .loop .k) (l .loop .inv .0) _ row-i _ row-k _ (c .before .same-tag .ensures) (c .if2 .taken)
+    let a = l .before .before .args in
+    let row-i = rows-next listOf (a .t1) (a .count) (l .loop .i) no-list (omega arith) in
+    let row-k = rows-next listOf (a .t1) (a .count) (l .loop .k) no-list (omega arith) in
+    apart-pair (rows listOf (a .count) (a .t1)) (l .loop .i) (l .loop .k) (l .loop .inv .0) _ row-i _ row-k _ (c .before .same-tag .ensures) (c .if2 .taken)
 
 add-k : tie.Need-add-k Inv-loop μ-loop
 add-k c = omega arith
@@ -53,11 +62,13 @@ loop-less c = omega arith
 loop-again : tie.Need-loop-again Inv-loop μ-loop
 loop-again c =
     let l = c .before .before .before .before .before .before .before .before in
-    let m = l .before .before .args .t1 in
-    let row-i = rows-next listOf (m .lists) (m .«list_count») (l .loop .i) no-list (omega arith) in
-    let row-k = rows-next listOf (m .lists) (m .«list_count») (l .loop .k) no-list (omega arith) in (
-      apart-on (listsOf m) (l .loop .i) (l .loop .k) (l .loop .inv .0) _ row-i _ row-k _ (c .before .same-tag .ensures) (c .if2 .left),
+    let a = l .before .before .args in
+    let row-i = rows-next listOf (a .t1) (a .count) (l .loop .i) no-list (omega arith) in
+    let row-k = rows-next listOf (a .t1) (a .count) (l .loop .k) no-list (omega arith) in (
+      apart-on (rows listOf (a .count) (a .t1)) (l .loop .i) (l .loop .k) (l .loop .inv .0) _ row-i _ row-k _ (c .before .same-tag .ensures) (c .if2 .left),
       omega arith,
+      omega arith,
+      l .loop .inv .3,
       omega arith,
     )
 
@@ -73,13 +84,14 @@ loop-less-2 c = omega arith
 loop-again-2 : tie.Need-loop-again-2 Inv-loop μ-loop
 loop-again-2 c =
     let l = c .before .before in
-    let m = l .before .before .args .t1 in
-    (apart-next (listsOf m) (l .loop .i) (l .loop .k) (l .loop .inv .0) (omega arith) (omega arith), omega arith, omega arith)
+    let a = l .before .before .args in
+    (apart-next (rows listOf (a .count) (a .t1)) (l .loop .i) (l .loop .k) (l .loop .inv .0) (omega arith) (omega arith), omega arith, omega arith, l .loop .inv .3, omega arith)
 
 returns-2 : tie.Need-returns-2 Inv-loop μ-loop
 returns-2 c =
     let l = c .before in
-    apart-end (listsOf (l .before .before .args .t1)) (l .loop .i) (l .loop .k) (l .loop .inv .0) (omega arith)
+    let a = l .before .before .args in
+    apart-end (rows listOf (a .count) (a .t1)) (l .loop .i) (l .loop .k) (l .loop .inv .0) (omega arith)
 
 pub lists-distinct-spec : {M : Type 1} → statement M
 lists-distinct-spec =
@@ -87,12 +99,12 @@ lists-distinct-spec =
     (tie.spec
     Inv-loop
     μ-loop
-    lists-held-requires
+    at-most-requires
     loop-holds
     mul-a
-    element-copy-out-a
+    array-copy-out-a
     mul-b
-    element-copy-out-b
+    array-copy-out-b
     same-tag-requires
     returns
     add-k
