@@ -1,0 +1,3 @@
+-- `Lending` and `With1` are what the functions' proofs cite.
+mod Lending
+mod With1
