@@ -1,3 +1,5 @@
--- `Lending` and `With1` are what the functions' proofs cite.
+-- `Lending`, `Passed`, `Wrapper` and `Walk` are what the functions' proofs cite.
 mod Lending
-mod With1
+mod Passed
+mod Wrapper
+mod Walk
