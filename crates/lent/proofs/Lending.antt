@@ -13,7 +13,6 @@ use prog.Wp.{Heap}
 use ghost.Atoms.{Atoms, sem}
 use types.Kit.{Given, Item, ‵, raw, _⊛_, some, later, mean}
 use types.SemTy.{Body}
-use denote.RattleType.{RattleType}
 use denote.Laws.{Is, Tells, Makes}
 use denote.Memory.{mem, cellAt, pointee}
 use denote.Struct.Laws as LL

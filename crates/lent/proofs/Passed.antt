@@ -8,7 +8,7 @@ use lib.Dec.{T as Holds}
 use lib.Ieee.{binary64}
 use mir.Syntax.{Ty, tyRef, tyInt, tyFloat, tyBool, named, imm, w64}
 use mir.Val.{Val, WT, hasTy, vint, vbool, vfloat}
-use base.Logic.{SProp, ent, id⊢, monoR}
+use base.Logic.{ent, id⊢, monoR}
 use base.Fml.{ftrue}
 use prog.Wp.{Heap}
 use ghost.Atoms.{Atoms, sem}

@@ -23,6 +23,7 @@ pub fn add_function(m: &mut Model, tag: &[u8], c: Component) -> Answer
     e.answer
 }
 
+// `inputs` are none, or n tags of which the first three at most are looked at.
 pub fn add_operation(
     m: &mut Model,
     tag: &[u8],
