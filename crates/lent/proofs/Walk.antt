@@ -1,0 +1,5 @@
+-- The walks, by how many parameters stand after the model.
+pub mod One
+pub mod Two
+pub mod Three
+pub mod Seven
