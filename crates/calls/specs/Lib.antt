@@ -1,0 +1,4 @@
+pub mod Edits
+pub mod Called
+pub mod Lists
+pub mod Steps
