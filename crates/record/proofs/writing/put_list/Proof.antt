@@ -1,10 +1,10 @@
--- `record::put_list` is safe and ends: the loop's measure is the places that are left. Assumes nothing.
+-- `writing::put_list` is safe and ends: the loop's measure is the places that are left. Assumes nothing.
 use Prim.Native.Nat.{_-_}
 use mathlib.Core.Path.{_≡_}
 use lib.ListN.{length}
 use native.Mathlib.Omega.{arith}
-use Rattle.script.proofs.record.put_list.Statement.{statement}
-use Rattle.script.proofs.record.put_list.Tie as tie
+use Rattle.record.proofs.writing.put_list.Statement.{statement}
+use Rattle.record.proofs.writing.put_list.Tie as tie
 
 abbrev Inv-loop : tie.InvT-loop
 Inv-loop out₀ n l places named k₀ i₀ out k i = length out ≡ length out₀

@@ -1,5 +1,5 @@
 // A model read from a record, as it stands: whether it is one is for 7 to say. Rows and places that there is no room for are counted and not kept.
-use crate::record::no_place;
+use crate::writing::no_place;
 use edit::rows::with_entry;
 use edit::rows::with_list;
 use model::implicit_model::ComponentEntry;

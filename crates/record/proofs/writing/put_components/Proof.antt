@@ -1,11 +1,11 @@
--- `record::put_components` is safe and ends: the loop's measure is the components that are left. Assumes nothing.
+-- `writing::put_components` is safe and ends: the loop's measure is the components that are left. Assumes nothing.
 use Prim.Native.Nat.{_-_, _≤_}
 use mathlib.Core.Path.{_≡_}
 use lib.ListN.{length}
 use native.Mathlib.Omega.{arith}
 use borrow.Author.Needs.{needs}
-use Rattle.script.proofs.record.put_components.Statement.{statement}
-use Rattle.script.proofs.record.put_components.Tie as tie
+use Rattle.record.proofs.writing.put_components.Statement.{statement}
+use Rattle.record.proofs.writing.put_components.Tie as tie
 
 abbrev Inv-loop : tie.InvT-loop
 Inv-loop out₀ n m held words k₀ last₀ i₀ out k last i = (length out ≡ length out₀) × (held ≤ 64)

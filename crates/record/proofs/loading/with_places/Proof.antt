@@ -1,8 +1,8 @@
 -- `loading::with_places` is safe and ends: the loop's measure is the places that are left. Assumes nothing.
 use Prim.Native.Nat.{_-_}
 use native.Mathlib.Omega.{arith}
-use Rattle.script.proofs.loading.with_places.Statement.{statement}
-use Rattle.script.proofs.loading.with_places.Tie as tie
+use Rattle.record.proofs.loading.with_places.Statement.{statement}
+use Rattle.record.proofs.loading.with_places.Tie as tie
 
 abbrev Inv-loop : tie.InvT-loop
 Inv-loop line list₀ count at₀ good₀ i₀ list at good i = Unit {0}

@@ -2,8 +2,8 @@
 use Prim.Native.Nat.{_-_, _<_, _^_}
 use native.Mathlib.Omega.{arith}
 use borrow.Author.Needs.{needs}
-use Rattle.script.proofs.loading.with_components.Statement.{statement}
-use Rattle.script.proofs.loading.with_components.Tie as tie
+use Rattle.record.proofs.loading.with_components.Statement.{statement}
+use Rattle.record.proofs.loading.with_components.Tie as tie
 
 abbrev Inv-loop : tie.InvT-loop
 Inv-loop line count at₀ good₀ m₀ i₀ at good m i = count < 2 ^ 64

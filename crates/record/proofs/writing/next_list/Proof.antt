@@ -1,8 +1,8 @@
--- `record::next_list` is safe and ends: the loop's measure is the rows that are left. Assumes nothing.
+-- `writing::next_list` is safe and ends: the loop's measure is the rows that are left. Assumes nothing.
 use Prim.Native.Nat.{_-_}
 use native.Mathlib.Omega.{arith}
-use Rattle.script.proofs.record.next_list.Statement.{statement}
-use Rattle.script.proofs.record.next_list.Tie as tie
+use Rattle.record.proofs.writing.next_list.Statement.{statement}
+use Rattle.record.proofs.writing.next_list.Tie as tie
 
 abbrev Inv-loop : tie.InvT-loop
 Inv-loop last m n best₀ at₀ i₀ best at i = Unit {0}
