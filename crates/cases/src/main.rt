@@ -2,6 +2,7 @@
 // printed as it stands, so that the output reads as a report.
 use model::implicit_model::Model;
 use protocol::words;
+use protocol::writing::put_byte;
 use script::answers;
 
 const OUT: i32 = 1;
@@ -10,15 +11,6 @@ const OUT: i32 = 1;
 struct State {
     model: Model,
     held: usize,
-}
-
-// One byte more of a line. What does not fit is left out.
-fn with(line: &mut [u8], held: usize, b: u8) -> usize {
-    if held < line.len() {
-        line[held] = b;
-        return held + 1;
-    }
-    held
 }
 
 fn print(s: &[u8]) {
@@ -52,7 +44,7 @@ fn fed(state: State, s: &[u8], line: &mut [u8], out: &mut [u8]) -> State {
             m = closed(m, words::part(line, 0, held), out);
             held = 0;
         } else {
-            held = with(line, held, b);
+            held = put_byte(line, held, b);
         }
     }
     State { model: m, held }

@@ -3,7 +3,7 @@ use model::implicit_model::Place;
 use tag::Tag;
 
 // One byte.
-fn put_byte(out: &mut [u8], n: usize, b: u8) -> usize {
+pub fn put_byte(out: &mut [u8], n: usize, b: u8) -> usize {
     if n < out.len() {
         out[n] = b;
         return n + 1;

@@ -1,7 +1,5 @@
 // A line run on a model, and its answer.
 use crate::edits::edited;
-use crate::loading::load;
-use crate::record::put_record;
 use float::bits::bits_of;
 use geometry::vec3f::Vec3;
 use graph::computation_graph::CompiledGraph;
@@ -20,6 +18,8 @@ use protocol::writing::put;
 use protocol::writing::put_bits;
 use protocol::writing::put_decimal;
 use protocol::writing::put_tag;
+use record::loading::load;
+use record::writing::put_record;
 use tag::Tag;
 use tag::bytes::same_bytes;
 

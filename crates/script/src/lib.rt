@@ -1,5 +1,3 @@
 // A script of the line protocol: a line run on a model, and its answer written.
 pub mod answers;
 mod edits;
-mod loading;
-mod record;

@@ -34,8 +34,8 @@ loop-less c = omega arith
 loop-again : tie.Need-loop-again Inv-loop μ-loop
 loop-again c = omega arith
 
-with-requires : tie.Need-with-requires Inv-loop μ-loop
-with-requires c κs = tt
+put-byte-requires : tie.Need-put-byte-requires Inv-loop μ-loop
+put-byte-requires c κs = tt
 
 loop-less-2 : tie.Need-loop-less-2 Inv-loop μ-loop
 loop-less-2 c = omega arith
@@ -65,7 +65,7 @@ fed-spec =
     closed-requires
     loop-less
     loop-again
-    with-requires
+    put-byte-requires
     loop-less-2
     loop-again-2
     same-length

@@ -1,0 +1,3 @@
+// A model as a record of the line protocol: written, and read.
+pub mod loading;
+pub mod writing;
