@@ -55,6 +55,11 @@ pub fn compiled_order(model: &ImplicitModel<f64>, target: &str) -> Result<Vec<St
         .collect())
 }
 
+/// Compile alone, for the benchmarks: whether it took the target.
+pub fn compiles(model: &ImplicitModel<f64>, target: &str) -> bool {
+    model.compile(target).map(components).is_ok()
+}
+
 /// More turns of the wiring walk than this count as a walk that does not end.
 const TURNS: usize = 1_000_000;
 

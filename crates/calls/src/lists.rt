@@ -25,7 +25,7 @@ pub extern "C" fn dw_new(model: &mut [u8], out: &mut [u8]) -> u32
     if model.len() != 27200 {
         return tell_7(out);
     }
-    let m = model::reading::new();
+    let m = held::reading::new();
     put_model(m, 0, model);
     tell_done(out)
 }

@@ -156,7 +156,7 @@ fn report(t: Tally) {
 
 // Nothing run and nothing counted.
 fn start() -> State {
-    let empty = model::reading::new();
+    let empty = held::reading::new();
     let t = Tally {
         answers: 0,
         same: 0,

@@ -15,8 +15,8 @@ use Rattle.model.specs.Edit.{Edit, Answer, refused, Outcome, check, edit, apply
 use Rattle.model.specs.Answer.{answerOf}
 use Rattle.model.specs.View.{componentOf, listOf, view, fits, passes}
 use Rattle.model.proofs.Laws.Bool.{T→true, true→T, and-T, and-T₁}
-use Rattle.model.proofs.Laws.Rows.{rows-length}
-use Rattle.model.proofs.Laws.Standing.{passes-valid, standing}
+use Rattle.held.proofs.Laws.Rows.{rows-length}
+use Rattle.held.proofs.Laws.Standing.{passes-valid, standing}
 use Rattle.edit.specs.declared.Edited.{Edited}
 use Rattle.edit.specs.Meets.{defined, Meets}
 use Rattle.layout.specs.Words.{word}
