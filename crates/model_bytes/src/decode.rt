@@ -53,14 +53,15 @@ pub struct ListRead {
     pub list: InputList,
 }
 
+// The table stands first: behind a bool its copy would begin at an odd byte, and a copy of this size was then twenty times slower.
 pub struct ComponentsRead {
-    pub ok: bool,
     pub table: [ComponentEntry; 64],
+    pub ok: bool,
 }
 
 pub struct ListsRead {
-    pub ok: bool,
     pub table: [InputList; 128],
+    pub ok: bool,
 }
 
 // Whether the bytes from a place up to another are 0.
