@@ -13,6 +13,8 @@ mod record;
 mod reference;
 mod shrink;
 mod smallest;
+#[cfg(test)]
+mod truck;
 mod words;
 
 use compare::{Compared, Counts, Pair, Program, Script};
