@@ -16,11 +16,7 @@ pub struct Program(pub Vec<String>);
 impl Program {
     fn start(&self) -> io::Result<Child> {
         let mut process = Process::new(&self.0[0]);
-        process
-            .args(&self.0[1..])
-            .stdin(Stdio::piped())
-            .stdout(Stdio::piped())
-            .spawn()
+        process.args(&self.0[1..]).stdin(Stdio::piped()).stdout(Stdio::piped()).spawn()
     }
 
     /// The answers to all lines of a text. A thread writes them, so that as many as the pipes hold are in flight.
@@ -70,10 +66,7 @@ pub struct Pair {
 /// The model of a dump; the broken one where 7 refuses it.
 pub fn model_of(dump: &str) -> Model {
     let mut m = Model::new("");
-    match dump
-        .strip_prefix("ok ")
-        .and_then(|r| command(&format!("load {r}")))
-    {
+    match dump.strip_prefix("ok ").and_then(|r| command(&format!("load {r}"))) {
         Some(c) => {
             reference::apply(&mut m, &c);
         }
@@ -105,10 +98,7 @@ impl Pair {
             let mut before = Model::new("");
             let mut steps = vec![];
             for line in script {
-                let ours = Answered {
-                    answer: next(&mut answers),
-                    dump: next(&mut answers),
-                };
+                let ours = Answered { answer: next(&mut answers), dump: next(&mut answers) };
                 let step = self.step(before, line, ours);
                 before = model_of(&step.ours.dump);
                 steps.push(step);
@@ -120,25 +110,10 @@ impl Pair {
 
     fn step(&self, before: Model, line: &str, ours: Answered) -> Step {
         let command = command(line);
-        let kept = || Answered {
-            answer: "error".to_string(),
-            dump: judge::dump(&before),
-        };
-        let document = command
-            .as_ref()
-            .map_or_else(kept, |c| judge::by_document(&before, c));
-        let departure = if self.plain {
-            None
-        } else {
-            judge::departure(&before, command.as_ref(), &document)
-        };
-        Step {
-            before,
-            command,
-            document,
-            departure,
-            ours,
-        }
+        let kept = || Answered { answer: "error".to_string(), dump: judge::dump(&before) };
+        let document = command.as_ref().map_or_else(kept, |c| judge::by_document(&before, c));
+        let departure = if self.plain { None } else { judge::departure(&before, command.as_ref(), &document) };
+        Step { before, command, document, departure, ours }
     }
 
     /// The other program on the same scripts; after a departure that parts the two models it takes over ours.
@@ -159,10 +134,7 @@ impl Pair {
             next(&mut answers);
             let mut other = vec![];
             for step in steps {
-                other.push(Answered {
-                    answer: next(&mut answers),
-                    dump: next(&mut answers),
-                });
+                other.push(Answered { answer: next(&mut answers), dump: next(&mut answers) });
                 if parts(step) && step.ours.dump.starts_with("ok ") {
                     next(&mut answers);
                 }
@@ -176,15 +148,7 @@ impl Pair {
         let steps = self.steps(scripts)?;
         let others = self.others(scripts, &steps)?;
         let both = steps.into_iter().zip(others);
-        Ok(both
-            .map(|(steps, others)| {
-                steps
-                    .into_iter()
-                    .zip(others)
-                    .map(|(s, o)| compared(s, o))
-                    .collect()
-            })
-            .collect())
+        Ok(both.map(|(steps, others)| steps.into_iter().zip(others).map(|(s, o)| compared(s, o)).collect()).collect())
     }
 }
 
@@ -193,13 +157,7 @@ fn parts(step: &Step) -> bool {
 }
 
 fn compared(step: Step, rust: Answered) -> Compared {
-    let Step {
-        before,
-        command,
-        document,
-        departure,
-        ours,
-    } = step;
+    let Step { before, command, document, departure, ours } = step;
     let alike = judge::same(&before, command.as_ref(), &ours, &rust);
     let documented = judge::same(&before, command.as_ref(), &ours, &document);
     let unexplained = match &departure {
@@ -214,14 +172,7 @@ fn compared(step: Step, rust: Answered) -> Compared {
         Some(_) => None,
     };
     let undocumented = (!documented).then(|| format!("document 01: {}", document.answer));
-    Compared {
-        class: departure.map(|d| d.class),
-        alike,
-        unexplained,
-        undocumented,
-        ours,
-        rust,
-    }
+    Compared { class: departure.map(|d| d.class), alike, unexplained, undocumented, ours, rust }
 }
 
 /// How often each class came up, and how often the two answered otherwise in it.
@@ -254,18 +205,12 @@ impl Counts {
             }
         }
         let word = line.split(' ').next().unwrap_or("").to_string();
-        *self
-            .answers
-            .entry((word, kind_of_answer(&c.ours.answer)))
-            .or_default() += 1;
+        *self.answers.entry((word, kind_of_answer(&c.ours.answer))).or_default() += 1;
     }
 
     pub fn print(&self, plain: bool) {
         println!("{} commands, each with the model after it", self.commands);
-        println!(
-            "{:>10} the same answer and model (an order: both have the common property)",
-            self.same
-        );
+        println!("{:>10} the same answer and model (an order: both have the common property)", self.same);
         for class in judge::CLASSES.iter().filter(|_| !plain) {
             let (arose, differ) = self.classes.get(class).copied().unwrap_or_default();
             println!("{arose:>10} {class}, {differ} of them answered or left otherwise");

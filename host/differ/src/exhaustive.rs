@@ -12,10 +12,7 @@ const ONE: &str = "3ff0000000000000";
 /// A kind with its words and its inputs. A function stands in the wires as a constant does.
 const KINDS: [(&str, usize); 5] = [
     ("constant 3ff0000000000000", 0),
-    (
-        "sphere 0000000000000000 0000000000000000 0000000000000000 3ff0000000000000",
-        0,
-    ),
+    ("sphere 0000000000000000 0000000000000000 0000000000000000 3ff0000000000000", 0),
     ("Offset 3ff0000000000000", 1),
     ("Subtract", 2),
     ("VariableLerp", 3),
@@ -24,27 +21,16 @@ const KINDS: [(&str, usize); 5] = [
 /// Every way to fill so many places.
 fn fillings(places: usize, with: &[&str]) -> Vec<String> {
     (0..places).fold(vec![String::new()], |all, _| {
-        all.iter()
-            .flat_map(|f| with.iter().map(move |w| format!("{f} {w}")))
-            .collect()
+        all.iter().flat_map(|f| with.iter().map(move |w| format!("{f} {w}"))).collect()
     })
 }
 
 /// Every list under a tag, of so many places or of any: the words behind the tag; none for no list.
 fn lists(count: Option<usize>) -> Vec<Option<String>> {
-    let of = |n: usize| {
-        fillings(n, &["-", TAGS[0], TAGS[1]])
-            .into_iter()
-            .map(move |f| Some(format!("{n}{f}")))
-    };
+    let of = |n: usize| fillings(n, &["-", TAGS[0], TAGS[1]]).into_iter().map(move |f| Some(format!("{n}{f}")));
     match count {
         Some(n) => of(n).collect(),
-        None => [None]
-            .into_iter()
-            .chain(of(1))
-            .chain(of(2))
-            .chain(of(3))
-            .collect(),
+        None => [None].into_iter().chain(of(1)).chain(of(2)).chain(of(3)).collect(),
     }
 }
 
@@ -71,24 +57,12 @@ type Holding = (Option<&'static str>, Option<String>);
 
 fn records(a: &Holding, b: &Holding) -> Vec<String> {
     let both = [(TAGS[0], a), (TAGS[1], b)];
-    let components: Vec<String> = both
-        .iter()
-        .filter_map(|(t, h)| h.0.map(|c| format!(" {t} {c}")))
-        .collect();
-    let lists: Vec<String> = both
-        .iter()
-        .filter_map(|(t, h)| h.1.as_ref().map(|l| format!(" {t} {l}")))
-        .collect();
+    let components: Vec<String> = both.iter().filter_map(|(t, h)| h.0.map(|c| format!(" {t} {c}"))).collect();
+    let lists: Vec<String> = both.iter().filter_map(|(t, h)| h.1.as_ref().map(|l| format!(" {t} {l}"))).collect();
     let present = both.iter().filter(|(_, h)| h.0.is_some()).map(|(t, _)| *t);
     let record = |default: &str| {
         let counts = (components.len(), lists.len());
-        format!(
-            "default {default} components {}{} lists {}{}",
-            counts.0,
-            components.concat(),
-            counts.1,
-            lists.concat()
-        )
+        format!("default {default} components {}{} lists {}{}", counts.0, components.concat(), counts.1, lists.concat())
     };
     ["-"].into_iter().chain(present).map(record).collect()
 }
@@ -102,18 +76,11 @@ pub fn commands() -> Vec<String> {
             format!("evaluate_at {t} {ONE} {ONE} {ONE}"),
             format!("remove_component {t}"),
         ]);
-        all.extend([
-            format!("add_constant {t} {ONE}"),
-            format!("add_function {t} {}", KINDS[1].0),
-        ]);
+        all.extend([format!("add_constant {t} {ONE}"), format!("add_function {t} {}", KINDS[1].0)]);
         all.extend(KINDS.map(|k| format!("add_component {t} {}", k.0)));
         for (kind, inputs) in &KINDS[2..] {
             all.push(format!("add_operation {t} {kind} none"));
-            all.extend(
-                fillings(*inputs, &TAGS)
-                    .iter()
-                    .map(|f| format!("add_operation {t} {kind} inputs {inputs}{f}")),
-            );
+            all.extend(fillings(*inputs, &TAGS).iter().map(|f| format!("add_operation {t} {kind} inputs {inputs}{f}")));
             all.push(format!("add_operation {t} {kind} inputs 0"));
             all.push(format!("add_operation {t} {kind} inputs 4 {t} {t} {t} {t}"));
         }

@@ -77,15 +77,14 @@ const BAD: [&str; 12] = [
 ];
 
 const CAST: [&str; 13] = [
-    "tiny", "tiny", "small", "small", "numbers", "numbers", "numbered", "lengths", "prefixes",
-    "full", "lists", "chain", "zeros",
+    "tiny", "tiny", "small", "small", "numbers", "numbers", "numbered", "lengths", "prefixes", "full", "lists",
+    "chain", "zeros",
 ];
 
 fn tags_of(theme: &str) -> Vec<Tag> {
     let x = |n: usize| vec![b'x'; n];
     let with = |n: usize, end: &str| [&x(n), end.as_bytes()].concat();
-    let plain =
-        |tags: &[&str]| -> Vec<Tag> { tags.iter().map(|t| t.as_bytes().to_vec()).collect() };
+    let plain = |tags: &[&str]| -> Vec<Tag> { tags.iter().map(|t| t.as_bytes().to_vec()).collect() };
     match theme {
         "tiny" => plain(&["a", "b", "None"]),
         "numbered" => plain(&["a", "a_1", "a_2", "a_1_1", "a_3", "b"]),
@@ -105,9 +104,7 @@ fn tags_of(theme: &str) -> Vec<Tag> {
             x(65),
             b"a".to_vec(),
         ],
-        "prefixes" => plain(&[
-            "", "a", "aa", "a\0", "ab", "b", "é", "None", "none", "A", "\u{7f}",
-        ]),
+        "prefixes" => plain(&["", "a", "aa", "a\0", "ab", "b", "é", "None", "none", "A", "\u{7f}"]),
         "full" => [plain(&["", "None", "a", "b"]), vec![x(31), x(32)]].concat(),
         "numbers" => plain(&["a", "b", "c", "d", "e", "f", "g", "h"]),
         _ => plain(&["", "None", "a", "b", "c", "a_1"]),
@@ -126,13 +123,7 @@ pub struct Generator {
 impl Generator {
     pub fn new(seed: u64, bytes: bool) -> Generator {
         let (random, model) = (Random::new(seed), Model::new(""));
-        Generator {
-            random,
-            tags: vec![],
-            bytes,
-            model,
-            script: vec![],
-        }
+        Generator { random, tags: vec![], bytes, model, script: vec![] }
     }
 
     fn say(&mut self, line: String) {
@@ -153,10 +144,7 @@ impl Generator {
     }
 
     fn words(&mut self, count: usize) -> String {
-        (0..count)
-            .map(|_| self.number())
-            .collect::<Vec<_>>()
-            .join(" ")
+        (0..count).map(|_| self.number()).collect::<Vec<_>>().join(" ")
     }
 
     fn tag(&mut self) -> String {
@@ -170,11 +158,7 @@ impl Generator {
             return self.tag();
         }
         let at = self.random.below(held);
-        self.model
-            .components
-            .keys()
-            .nth(at)
-            .map_or(".".to_string(), |t| tag_word(t))
+        self.model.components.keys().nth(at).map_or(".".to_string(), |t| tag_word(t))
     }
 
     /// A tag that has a list, more often than not.
@@ -184,11 +168,7 @@ impl Generator {
             return self.present();
         }
         let at = self.random.below(held);
-        self.model
-            .lists
-            .keys()
-            .nth(at)
-            .map_or(".".to_string(), |t| tag_word(t))
+        self.model.lists.keys().nth(at).map_or(".".to_string(), |t| tag_word(t))
     }
 
     fn component(&mut self, first: usize, count: usize) -> String {
@@ -201,15 +181,8 @@ impl Generator {
     }
 
     fn given(&mut self, kind: &str) -> String {
-        let inputs = KINDS
-            .iter()
-            .find(|k| kind.split(' ').next() == Some(k.0))
-            .map_or(0, |k| k.2);
-        let count = if self.random.chance(92) {
-            inputs
-        } else {
-            self.random.below(6)
-        };
+        let inputs = KINDS.iter().find(|k| kind.split(' ').next() == Some(k.0)).map_or(0, |k| k.2);
+        let count = if self.random.chance(92) { inputs } else { self.random.below(6) };
         let tags: Vec<String> = (0..count).map(|_| self.present()).collect();
         match self.random.below(5) {
             0 => "none".to_string(),
@@ -232,19 +205,11 @@ impl Generator {
         match self.random.below(10) {
             0..=1 => format!("add_constant {} {}", self.tag(), self.number()),
             2..=3 => {
-                let c = if other {
-                    self.component(0, 15)
-                } else {
-                    self.component(1, 2)
-                };
+                let c = if other { self.component(0, 15) } else { self.component(1, 2) };
                 format!("add_function {} {c}", self.tag())
             }
             4..=7 => {
-                let c = if other {
-                    self.component(0, 3)
-                } else {
-                    self.component(3, 12)
-                };
+                let c = if other { self.component(0, 3) } else { self.component(3, 12) };
                 format!("add_operation {} {c} {}", self.tag(), self.given(&c))
             }
             _ => {
@@ -265,11 +230,7 @@ impl Generator {
             self.random.pick(known).0
         };
         let fits = !self.random.chance(15);
-        let near = component.and_then(|(_, c)| {
-            c.numbers
-                .get(self.random.below(c.numbers.len().max(1)))
-                .copied()
-        });
+        let near = component.and_then(|(_, c)| c.numbers.get(self.random.below(c.numbers.len().max(1))).copied());
         let data = match (name, fits) {
             ("FromMin" | "FromMax" | "ToMin" | "ToMax", true) if self.random.chance(60) => {
                 self.near(near.unwrap_or(0.0))
@@ -285,13 +246,7 @@ impl Generator {
 
     /// A number that is near another, by the bound or by half of it.
     fn near(&mut self, x: f64) -> String {
-        let by = *self.random.pick(&[
-            0.0,
-            f64::EPSILON,
-            f64::EPSILON / 2.0,
-            -f64::EPSILON,
-            f64::EPSILON * 1.5,
-        ]);
+        let by = *self.random.pick(&[0.0, f64::EPSILON, f64::EPSILON / 2.0, -f64::EPSILON, f64::EPSILON * 1.5]);
         format!("value {}", bits_word(x + by))
     }
 
@@ -309,12 +264,7 @@ impl Generator {
         let evaluating = |g: &mut Generator| format!("evaluate_at {} {}", g.present(), g.words(3));
         match self.random.below(100) {
             0..=29 => self.adding(),
-            30..=43 => format!(
-                "add_input {} {} {}",
-                self.listing(),
-                self.present(),
-                self.index()
-            ),
+            30..=43 => format!("add_input {} {} {}", self.listing(), self.present(), self.index()),
             44..=62 if calm => evaluating(self),
             44..=49 => format!("remove_input {} {}", self.listing(), self.index()),
             50..=55 => format!("remove_component {}", self.present()),
@@ -334,34 +284,16 @@ impl Generator {
             return format!("load {}", self.model.record());
         }
         let lists: Vec<String> = (0..self.random.below(4)).map(|_| self.listed(3)).collect();
-        let held: Vec<String> = (0..self.random.below(4))
-            .map(|_| format!("{} {}", self.tag(), self.component(0, 15)))
-            .collect();
-        let default = if self.random.chance(50) {
-            "-".to_string()
-        } else {
-            self.tag()
-        };
-        let parts = [
-            "default".to_string(),
-            default,
-            "components".to_string(),
-            held.len().to_string(),
-        ];
-        let words = parts
-            .into_iter()
-            .chain(held)
-            .chain(["lists".to_string(), lists.len().to_string()])
-            .chain(lists);
+        let held: Vec<String> =
+            (0..self.random.below(4)).map(|_| format!("{} {}", self.tag(), self.component(0, 15))).collect();
+        let default = if self.random.chance(50) { "-".to_string() } else { self.tag() };
+        let parts = ["default".to_string(), default, "components".to_string(), held.len().to_string()];
+        let words = parts.into_iter().chain(held).chain(["lists".to_string(), lists.len().to_string()]).chain(lists);
         format!("load {}", words.collect::<Vec<_>>().join(" "))
     }
 
     fn listed(&mut self, most: usize) -> String {
-        let count = if self.random.chance(95) {
-            1 + self.random.below(most)
-        } else {
-            self.random.below(5)
-        };
+        let count = if self.random.chance(95) { 1 + self.random.below(most) } else { self.random.below(5) };
         let place = |g: &mut Generator| {
             if g.random.chance(30) {
                 "-".to_string()
@@ -370,9 +302,7 @@ impl Generator {
             }
         };
         let places: Vec<String> = (0..count).map(|_| place(self)).collect();
-        [vec![self.tag(), count.to_string()], places]
-            .concat()
-            .join(" ")
+        [vec![self.tag(), count.to_string()], places].concat().join(" ")
     }
 
     /// Close to 64 components.
@@ -380,11 +310,7 @@ impl Generator {
         for i in 0..60 + self.random.below(5) {
             let t = tag_word(format!("c{i}").as_bytes());
             let line = match self.random.below(3) {
-                0 => format!(
-                    "add_operation {t} Add inputs 2 {} {}",
-                    self.present(),
-                    self.present()
-                ),
+                0 => format!("add_operation {t} Add inputs 2 {} {}", self.present(), self.present()),
                 _ => format!("add_constant {t} {}", self.number()),
             };
             self.say(line);
@@ -394,39 +320,20 @@ impl Generator {
     /// Close to 128 lists, most of them left over.
     fn fill_lists(&mut self) {
         let count = 124 + self.random.below(5);
-        let lists: Vec<String> = (0..count)
-            .map(|i| {
-                format!(
-                    "{} 1 {}",
-                    tag_word(format!("l{i}").as_bytes()),
-                    place_word(&None)
-                )
-            })
-            .collect();
-        self.say(format!(
-            "load default - components 0 lists {count} {}",
-            lists.join(" ")
-        ));
+        let lists: Vec<String> =
+            (0..count).map(|i| format!("{} 1 {}", tag_word(format!("l{i}").as_bytes()), place_word(&None))).collect();
+        self.say(format!("load default - components 0 lists {count} {}", lists.join(" ")));
     }
 
     /// Operations that are each wired twice to the one before: the Rust's walk doubles with each. What the walk finds at
     /// the end is nothing, a gap, or (where the first is wired to the last) the target.
     fn chain(&mut self) {
-        let first = if self.random.chance(50) {
-            "constant 3ff0000000000000"
-        } else {
-            "Offset 0000000000000000"
-        };
+        let first = if self.random.chance(50) { "constant 3ff0000000000000" } else { "Offset 0000000000000000" };
         self.say(format!("add_component 6b30 {first}"));
         let last = 16 + self.random.below(14);
         let name = |i: usize| tag_word(format!("k{i}").as_bytes());
         for i in 1..=last {
-            self.say(format!(
-                "add_operation {} Add inputs 2 {} {}",
-                name(i),
-                name(i - 1),
-                name(i - 1)
-            ));
+            self.say(format!("add_operation {} Add inputs 2 {} {}", name(i), name(i - 1), name(i - 1)));
         }
         self.say("add_operation 61 Add none".to_string());
         for target in ["61".to_string(), name(0), name(1)] {
@@ -438,34 +345,17 @@ impl Generator {
 
     /// Zeros of both signs under min, max and what tells them apart.
     fn zeros(&mut self) {
-        for (t, bits) in [
-            ("7a30", "0000000000000000"),
-            ("7a31", "8000000000000000"),
-            ("7a32", "3ff0000000000000"),
-        ] {
+        for (t, bits) in [("7a30", "0000000000000000"), ("7a31", "8000000000000000"), ("7a32", "3ff0000000000000")] {
             self.say(format!("add_constant {t} {bits}"));
         }
         for i in 0..6 {
-            let kind = *self.random.pick(&[
-                "BooleanUnion",
-                "BooleanIntersection",
-                "BooleanDifference",
-                "Divide",
-                "Multiply",
-            ]);
+            let kind =
+                *self.random.pick(&["BooleanUnion", "BooleanIntersection", "BooleanDifference", "Divide", "Multiply"]);
             let t = tag_word(format!("y{i}").as_bytes());
-            let line = format!(
-                "add_operation {t} {kind} inputs 2 {} {}",
-                self.present(),
-                self.present()
-            );
+            let line = format!("add_operation {t} {kind} inputs 2 {} {}", self.present(), self.present());
             self.say(line);
         }
-        let line = format!(
-            "add_operation 7930 Thickness {} inputs 1 {}",
-            self.number(),
-            self.present()
-        );
+        let line = format!("add_operation 7930 Thickness {} inputs 1 {}", self.number(), self.present());
         self.say(line);
     }
 
@@ -474,8 +364,7 @@ impl Generator {
         let theme = *self.random.pick(&CAST);
         self.tags = tags_of(theme);
         if self.bytes {
-            self.tags
-                .extend([vec![0xff], vec![0x80, 0x61], vec![0xff; 32]]);
+            self.tags.extend([vec![0xff], vec![0x80, 0x61], vec![0xff; 32]]);
         }
         self.model = Model::new("");
         self.script = vec![];

@@ -43,11 +43,7 @@ pub fn sorted(m: &Model, reached: &BTreeSet<Tag>) -> Vec<Tag> {
             users.entry(input).or_default().push(t.clone());
         }
     }
-    let mut ready: BTreeSet<Tag> = reached
-        .iter()
-        .filter(|t| waiting[*t] == 0)
-        .cloned()
-        .collect();
+    let mut ready: BTreeSet<Tag> = reached.iter().filter(|t| waiting[*t] == 0).cloned().collect();
     let mut order = vec![];
     while let Some(t) = ready.pop_first() {
         for user in users.get(&t).into_iter().flatten() {
@@ -85,11 +81,7 @@ fn check_gaps(m: &Model, reached: &BTreeSet<Tag>) -> Result<(), Refusal> {
     let Some(t) = least(m, with_gap) else {
         return Ok(());
     };
-    let at = if m.wrong("highest-gap") {
-        m.list(t).iter().rposition(|p| p.is_none())
-    } else {
-        m.gap(t)
-    };
+    let at = if m.wrong("highest-gap") { m.list(t).iter().rposition(|p| p.is_none()) } else { m.gap(t) };
     Err(Refusal(13, t.clone(), at.unwrap_or(0)))
 }
 
@@ -121,9 +113,7 @@ pub fn order(m: &Model, target: &[u8]) -> Result<Vec<Tag>, Refusal> {
 pub fn compile(m: &Model, target: &[u8]) -> Answer {
     let order = order(m, target)?;
     let count = order.len() + usize::from(m.wrong("count-invented") && order.len() > 1);
-    let words = [count.to_string()]
-        .into_iter()
-        .chain(order.iter().map(|t| tag_word(t)));
+    let words = [count.to_string()].into_iter().chain(order.iter().map(|t| tag_word(t)));
     Ok(format!("ok {}", words.collect::<Vec<_>>().join(" ")))
 }
 
@@ -131,12 +121,7 @@ pub fn compile(m: &Model, target: &[u8]) -> Answer {
 pub fn number(m: &Model, target: &[u8], p: &[f64; 3], zeros: Zeros) -> Result<f64, Refusal> {
     let mut numbers: BTreeMap<Tag, f64> = BTreeMap::new();
     for t in order(m, target)? {
-        let read = |p: &Option<Tag>| {
-            p.as_ref()
-                .and_then(|u| numbers.get(u))
-                .copied()
-                .unwrap_or(0.0)
-        };
+        let read = |p: &Option<Tag>| p.as_ref().and_then(|u| numbers.get(u)).copied().unwrap_or(0.0);
         let mut x: Vec<f64> = m.list(&t).iter().map(read).collect();
         if m.wrong("inputs-sorted") {
             x.sort_by(f64::total_cmp);
@@ -145,11 +130,7 @@ pub fn number(m: &Model, target: &[u8], p: &[f64; 3], zeros: Zeros) -> Result<f6
         x.resize(3, 0.0);
         let component = &m.components[&t];
         let from_list = m.wrong("constant-reads-list") && component.kind == "constant" && given;
-        let value = if from_list {
-            x[0]
-        } else {
-            compute(component, p, &x, zeros, m.fault)
-        };
+        let value = if from_list { x[0] } else { compute(component, p, &x, zeros, m.fault) };
         numbers.insert(t, value);
     }
     let fixed = m.wrong("one-number");

@@ -57,11 +57,7 @@ pub struct Departure {
 
 fn unchanged(class: &'static str, answer: &str) -> Option<Departure> {
     let rust = Rust::Unchanged(answer.to_string());
-    Some(Departure {
-        class,
-        rust,
-        parts: false,
-    })
+    Some(Departure { class, rust, parts: false })
 }
 
 pub fn dump(m: &Model) -> String {
@@ -75,10 +71,7 @@ pub fn dump(m: &Model) -> String {
 pub fn by_document(before: &Model, c: &Command) -> Answered {
     let mut m = before.clone();
     let answer = reference::apply(&mut m, c);
-    Answered {
-        answer,
-        dump: dump(&m),
-    }
+    Answered { answer, dump: dump(&m) }
 }
 
 /// The tags of a command that 1 looks at.
@@ -87,10 +80,7 @@ fn tags_looked_at(c: &Command) -> Vec<&Tag> {
         Command::AddConstant(t, _) | Command::AddFunction(t, _) | Command::AddComponent(t, _) => {
             vec![t]
         }
-        Command::AddOperation(t, _, given) => [t]
-            .into_iter()
-            .chain(given.iter().flatten().take(3))
-            .collect(),
+        Command::AddOperation(t, _, given) => [t].into_iter().chain(given.iter().flatten().take(3)).collect(),
         Command::AddInput(t, u, _) | Command::RenameComponent(t, u) => vec![t, u],
         Command::RemoveInput(t, _) | Command::RemoveComponent(t) => vec![t],
         Command::SetParameter(t, _, _) | Command::Compile(t) | Command::EvaluateAt(t, _) => vec![t],
@@ -113,18 +103,10 @@ fn past_a_size(class: &'static str, before: &Model, c: &Command) -> Departure {
     m.sizes = false;
     let answer = reference::apply(&mut m, c);
     if matches!(c, Command::RenameComponent(old, _) if old == b"None") && answer.starts_with("ok") {
-        return Departure {
-            class,
-            rust: Rust::Free,
-            parts: true,
-        };
+        return Departure { class, rust: Rust::Free, parts: true };
     }
     let dump = dump(&m);
-    Departure {
-        class,
-        rust: Rust::Becomes(Answered { answer, dump }),
-        parts: true,
-    }
+    Departure { class, rust: Rust::Becomes(Answered { answer, dump }), parts: true }
 }
 
 /// Whether the Rust's walk, in which a tag waits as often as it is named, takes more than a million turns (oracle/README.md).
@@ -157,21 +139,13 @@ fn has_cycle(m: &Model, reached: &BTreeSet<Tag>) -> bool {
 
 fn wiring(before: &Model, target: &[u8], source: &[u8], i: usize) -> Option<Departure> {
     let present = |t| before.components.contains_key(t);
-    if !present(target)
-        || !present(source)
-        || i >= before.list(target).len()
-        || !walk_is_long(before, target, source)
-    {
+    if !present(target) || !present(source) || i >= before.list(target).len() || !walk_is_long(before, target, source) {
         return None;
     }
     let endless = before.walk(target, source).is_ok() && has_cycle(before, &reach(before, source));
     let class = if endless { "walk-hangs" } else { "walk-long" };
     let rust = Rust::Unchanged("hang".to_string());
-    Some(Departure {
-        class,
-        rust,
-        parts: true,
-    })
+    Some(Departure { class, rust, parts: true })
 }
 
 /// What the Rust may answer where its order meets more than one tag without a component or with a gap: any of them that
@@ -193,11 +167,7 @@ fn cycle(m: &Model, reached: &BTreeSet<Tag>) -> Option<Departure> {
     if sources.is_empty() {
         return unchanged("cycle-no-source", "panic");
     }
-    Some(Departure {
-        class: "cycle-names-source",
-        rust: Rust::OneOf(sources),
-        parts: false,
-    })
+    Some(Departure { class: "cycle-names-source", rust: Rust::OneOf(sources), parts: false })
 }
 
 fn compiling(before: &Model, target: &[u8], answer: &str) -> Option<Departure> {
@@ -210,16 +180,8 @@ fn compiling(before: &Model, target: &[u8], answer: &str) -> Option<Departure> {
         return None;
     }
     let number = |a: &str| a.split(' ').nth(1).map(str::to_string);
-    let class = if may.iter().all(|a| number(a) == number(answer)) {
-        "least-tag"
-    } else {
-        "12-or-13"
-    };
-    Some(Departure {
-        class,
-        rust: Rust::OneOf(may),
-        parts: false,
-    })
+    let class = if may.iter().all(|a| number(a) == number(answer)) { "least-tag" } else { "12-or-13" };
+    Some(Departure { class, rust: Rust::OneOf(may), parts: false })
 }
 
 fn evaluating(before: &Model, target: &[u8], p: &[f64; 3], answer: &str) -> Option<Departure> {
@@ -245,18 +207,11 @@ fn renaming(before: &Model, c: &Command, new: &[u8]) -> Option<Departure> {
     if !answer.starts_with("ok") || dump == after {
         return None;
     }
-    Some(Departure {
-        class: "rename-none",
-        rust: Rust::Becomes(Answered { answer, dump }),
-        parts: true,
-    })
+    Some(Departure { class: "rename-none", rust: Rust::Becomes(Answered { answer, dump }), parts: true })
 }
 
 fn setting(before: &Model, t: &[u8], number: &str) -> Option<Departure> {
-    let constant = before
-        .components
-        .get(t)
-        .is_some_and(|c| c.kind == "constant");
+    let constant = before.components.get(t).is_some_and(|c| c.kind == "constant");
     match number {
         "4" if constant => unchanged("constant-no-value", "panic"),
         "4" => unchanged("unfit-silent", "ok"),
@@ -268,30 +223,18 @@ fn setting(before: &Model, t: &[u8], number: &str) -> Option<Departure> {
 /// The departure that a line on this model brings about, if any; `document` is document 01's answer.
 pub fn departure(before: &Model, c: Option<&Command>, document: &Answered) -> Option<Departure> {
     if document.dump.starts_with("refused 7") {
-        return Some(Departure {
-            class: "record-7",
-            rust: Rust::Free,
-            parts: true,
-        });
+        return Some(Departure { class: "record-7", rust: Rust::Free, parts: true });
     }
     let c = c?;
     if tags_looked_at(c).iter().any(|t| t.len() > 32) {
         let free = is_of_another_kind(c);
-        let free = free.then_some(Departure {
-            class: "size-1",
-            rust: Rust::Free,
-            parts: true,
-        });
+        let free = free.then_some(Departure { class: "size-1", rust: Rust::Free, parts: true });
         return free.or_else(|| Some(past_a_size("size-1", before, c)));
     }
     if is_of_another_kind(c) {
         return unchanged("kind-4", "error");
     }
-    let number = document
-        .answer
-        .strip_prefix("refused ")
-        .and_then(|a| a.split(' ').next())
-        .unwrap_or("");
+    let number = document.answer.strip_prefix("refused ").and_then(|a| a.split(' ').next()).unwrap_or("");
     match number {
         "15" => return Some(past_a_size("size-15", before, c)),
         "16" => return Some(past_a_size("size-16", before, c)),
@@ -320,12 +263,7 @@ pub fn is_order(m: &Model, target: &[u8], answer: &str) -> bool {
     let reached = reach(m, target);
     let at: BTreeMap<&str, usize> = tags.iter().enumerate().map(|(i, t)| (*t, i)).collect();
     let position = |t: &[u8]| at.get(tag_word(t).as_str()).copied();
-    let ahead = |t: &Tag| {
-        m.list(t)
-            .iter()
-            .flatten()
-            .all(|u| position(u) < position(t))
-    };
+    let ahead = |t: &Tag| m.list(t).iter().flatten().all(|u| position(u) < position(t));
     answer.starts_with("ok ")
         && count == Some(tags.len())
         && tags.len() == reached.len()

@@ -13,6 +13,8 @@ mod record;
 mod reference;
 mod shrink;
 mod smallest;
+#[cfg(test)]
+mod truck;
 mod words;
 
 use compare::{Compared, Counts, Pair, Program, Script};
@@ -39,11 +41,7 @@ fn program(words: &str) -> Program {
 
 fn reference(fault: &str) -> io::Result<Program> {
     let own = std::env::current_exe()?.to_string_lossy().to_string();
-    Ok(Program(vec![
-        own,
-        "reference".to_string(),
-        fault.to_string(),
-    ]))
+    Ok(Program(vec![own, "reference".to_string(), fault.to_string()]))
 }
 
 /// Scripts of about so many commands in all.
@@ -61,17 +59,11 @@ fn report(pair: &Pair, script: Script, find: shrink::Find) -> io::Result<()> {
     let compared = pair.compare(&[script.clone()])?;
     println!("NOT EXPLAINED, after `new`:");
     for (line, c) in script.iter().zip(&compared[0]) {
-        println!(
-            "  {line}\n    ours {}\n    other {}",
-            c.ours.answer, c.rust.answer
-        );
+        println!("  {line}\n    ours {}\n    other {}", c.ours.answer, c.rust.answer);
     }
     if let Some(c) = compared[0].last() {
         println!("    {:?} {:?}", c.unexplained, c.undocumented);
-        println!(
-            "    ours then {}\n    other then {}",
-            c.ours.dump, c.rust.dump
-        );
+        println!("    ours then {}\n    other then {}", c.ours.dump, c.rust.dump);
     }
     Ok(())
 }
@@ -115,17 +107,11 @@ fn exhaustive(pair: &Pair) -> io::Result<usize> {
     while all.peek().is_some() && finds < 5 {
         let some: Vec<String> = all.by_ref().take(BATCH / commands.len()).collect();
         models += some.len();
-        let scripts = some
-            .iter()
-            .map(|r| exhaustive::script(r, &commands))
-            .collect();
+        let scripts = some.iter().map(|r| exhaustive::script(r, &commands)).collect();
         finds += take(pair, scripts, &mut counts)?;
     }
     counts.print(pair.plain);
-    println!(
-        "{models} models, {} commands each: {finds} models with something unexplained",
-        commands.len()
-    );
+    println!("{models} models, {} commands each: {finds} models with something unexplained", commands.len());
     Ok(finds)
 }
 
@@ -151,11 +137,7 @@ fn search(pair: &Pair, seed: u64, find: shrink::Find) -> io::Result<Option<(usiz
 fn try_faults(rust: &Program, seed: u64, only: Option<&str>) -> io::Result<usize> {
     let mut missed = 0;
     for (fault, text) in FAULTS.iter().filter(|f| only.is_none_or(|o| o == f.0)) {
-        let pair = Pair {
-            ours: reference(fault)?,
-            rust: rust.clone(),
-            plain: false,
-        };
+        let pair = Pair { ours: reference(fault)?, rust: rust.clone(), plain: false };
         match search(&pair, seed, is_unexplained)? {
             None => {
                 missed += 1;
@@ -182,10 +164,7 @@ fn show_smallest(pair: &Pair) -> io::Result<usize> {
         let shown = c.class == Some(class) && c.unexplained.is_none() && c.undocumented.is_none();
         wrong += usize::from(!shown);
         let lines = if script.len() > 4 || script[0].len() > 400 {
-            vec![
-                format!("({} commands)", script.len() - 1),
-                script[script.len() - 1].clone(),
-            ]
+            vec![format!("({} commands)", script.len() - 1), script[script.len() - 1].clone()]
         } else {
             script
         };
@@ -197,10 +176,7 @@ fn show_smallest(pair: &Pair) -> io::Result<usize> {
             if shown { "" } else { " | NOT SHOWN" }
         );
         if c.ours.dump != c.rust.dump && c.ours.dump.len() + c.rust.dump.len() < 800 {
-            println!(
-                "  the Rust then: {}\n  ours then: {}",
-                c.rust.dump, c.ours.dump
-            );
+            println!("  the Rust then: {}\n  ours then: {}", c.rust.dump, c.ours.dump);
         }
     }
     Ok(wrong)
@@ -214,26 +190,13 @@ fn usage() -> io::Result<usize> {
 fn main() -> io::Result<()> {
     let args: Vec<String> = std::env::args().skip(1).collect();
     let word = |i: usize| args.get(i).map(String::as_str);
-    let number =
-        |i: usize, otherwise: u64| word(i).and_then(|w| w.parse().ok()).unwrap_or(otherwise);
+    let number = |i: usize, otherwise: u64| word(i).and_then(|w| w.parse().ok()).unwrap_or(otherwise);
     let named = |name: &str| program(&std::env::var(name).unwrap_or_default());
-    let pair = || Pair {
-        ours: named("OURS"),
-        rust: named("RUST"),
-        plain: false,
-    };
+    let pair = || Pair { ours: named("OURS"), rust: named("RUST"), plain: false };
     let (seed, count) = (number(1, 1), number(2, 1_000_000) as usize);
     let finds = match word(0) {
         Some("random") => random(&pair(), seed, count)?,
-        Some("plain") => random(
-            &Pair {
-                rust: reference("")?,
-                plain: true,
-                ..pair()
-            },
-            seed,
-            count,
-        )?,
+        Some("plain") => random(&Pair { rust: reference("")?, plain: true, ..pair() }, seed, count)?,
         Some("exhaustive") => exhaustive(&pair())?,
         Some("faults") => try_faults(&named("RUST"), seed, word(2))?,
         Some("smallest") => show_smallest(&pair())?,

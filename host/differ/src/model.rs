@@ -73,11 +73,7 @@ impl Model {
     }
 
     pub fn too_long(&self, t: &[u8]) -> bool {
-        let bound = if self.wrong("tag-of-32-refused") {
-            31
-        } else {
-            32
-        };
+        let bound = if self.wrong("tag-of-32-refused") { 31 } else { 32 };
         self.sizes && t.len() > bound
     }
 
@@ -86,11 +82,7 @@ impl Model {
     }
 
     fn check_room(&self) -> Result<(), Refusal> {
-        let held = if self.wrong("room-not-used-again") {
-            self.added
-        } else {
-            self.components.len()
-        };
+        let held = if self.wrong("room-not-used-again") { self.added } else { self.components.len() };
         let bound = match self.fault {
             "room-for-63" => 63,
             "room-for-65" => 65,
@@ -100,18 +92,9 @@ impl Model {
     }
 
     fn check_list_room(&self, t: &[u8]) -> Result<(), Refusal> {
-        let bound = if self.wrong("room-for-127-lists") {
-            127
-        } else {
-            128
-        };
+        let bound = if self.wrong("room-for-127-lists") { 127 } else { 128 };
         let needed = self.wrong("leftover-not-used-again") || !self.lists.contains_key(t);
-        refuse_if(
-            self.sizes && needed && self.lists.len() >= bound,
-            16,
-            &[],
-            0,
-        )
+        refuse_if(self.sizes && needed && self.lists.len() >= bound, 16, &[], 0)
     }
 
     fn check_free(&self, t: &[u8]) -> Result<(), Refusal> {
@@ -152,30 +135,18 @@ impl Model {
         }
         refuse_if(c.inputs() == 0, 4, t, 0)?;
         if self.wrong("count-before-free") {
-            refuse_if(
-                given.as_ref().is_some_and(|g| g.len() != c.inputs()),
-                2,
-                t,
-                0,
-            )?;
+            refuse_if(given.as_ref().is_some_and(|g| g.len() != c.inputs()), 2, t, 0)?;
         }
         self.check_free(t)?;
         if self.wrong("refusal-moves-default") && self.default.is_some() {
             self.default = self.components.keys().next().cloned();
         }
-        refuse_if(
-            given.as_ref().is_some_and(|g| g.len() != c.inputs()),
-            2,
-            t,
-            0,
-        )?;
+        refuse_if(given.as_ref().is_some_and(|g| g.len() != c.inputs()), 2, t, 0)?;
         self.check_room()?;
         self.check_list_room(t)?;
         let places = match given {
             Some(tags) => tags.into_iter().map(Some).collect(),
-            None if self.wrong("leftover-kept-by-adding") && self.list(t).len() == c.inputs() => {
-                self.list(t).to_vec()
-            }
+            None if self.wrong("leftover-kept-by-adding") && self.list(t).len() == c.inputs() => self.list(t).to_vec(),
             None => Model::unassigned(c.inputs()),
         };
         self.lists.insert(t.to_vec(), places);
@@ -183,8 +154,7 @@ impl Model {
     }
 
     fn is_taken(&self, t: &[u8]) -> bool {
-        self.components.contains_key(t)
-            || self.wrong("free-looks-at-lists") && self.lists.contains_key(t)
+        self.components.contains_key(t) || self.wrong("free-looks-at-lists") && self.lists.contains_key(t)
     }
 
     fn free_tag(&self, t: &[u8]) -> Tag {
@@ -193,10 +163,7 @@ impl Model {
         if !self.is_taken(t) {
             return t.to_vec();
         }
-        (first..)
-            .map(numbered)
-            .find(|u| !self.is_taken(u))
-            .unwrap_or_default()
+        (first..).map(numbered).find(|u| !self.is_taken(u)).unwrap_or_default()
     }
 
     pub fn add_component(&mut self, t: &[u8], c: Component) -> Answer {
@@ -206,27 +173,13 @@ impl Model {
         if self.wrong("15-before-17") {
             self.check_room()?;
         }
-        refuse_if(
-            too_long,
-            17,
-            if self.wrong("17-carries-nothing") {
-                &[]
-            } else {
-                t
-            },
-            0,
-        )?;
+        refuse_if(too_long, 17, if self.wrong("17-carries-nothing") { &[] } else { t }, 0)?;
         self.check_room()?;
         if c.inputs() > 0 {
             self.check_list_room(&tag)?;
-            self.lists
-                .insert(tag.clone(), Model::unassigned(c.inputs()));
+            self.lists.insert(tag.clone(), Model::unassigned(c.inputs()));
         }
-        let default = if self.wrong("default-is-the-tag-made") {
-            tag.clone()
-        } else {
-            t.to_vec()
-        };
+        let default = if self.wrong("default-is-the-tag-made") { tag.clone() } else { t.to_vec() };
         self.place(&tag, c, &default)
     }
 
@@ -259,8 +212,7 @@ impl Model {
     }
 
     fn check_gap(&self, t: &[u8]) -> Result<(), Refusal> {
-        self.gap(t)
-            .map_or(Ok(()), |i| Err(Refusal(13, t.to_vec(), i)))
+        self.gap(t).map_or(Ok(()), |i| Err(Refusal(13, t.to_vec(), i)))
     }
 
     fn check_index(&self, t: &[u8], i: usize) -> Result<(), Refusal> {
@@ -420,18 +372,9 @@ impl Model {
         let twice = self.components.len() < r.components.len() || self.lists.len() < r.lists.len();
         let sizes = r.components.len() > 64 || r.lists.len() > 128;
         let tags = r.components.iter().any(|c| long(&c.0)) || r.lists.iter().any(|l| long(&l.0));
-        let places = r
-            .lists
-            .iter()
-            .any(|l| !(1..=3).contains(&l.1.len()) || l.1.iter().flatten().any(long));
-        let counts = self
-            .components
-            .iter()
-            .any(|(t, c)| c.inputs() > 0 && self.list(t).len() != c.inputs());
-        let default = self
-            .default
-            .as_ref()
-            .is_some_and(|t| !self.components.contains_key(t));
+        let places = r.lists.iter().any(|l| !(1..=3).contains(&l.1.len()) || l.1.iter().flatten().any(long));
+        let counts = self.components.iter().any(|(t, c)| c.inputs() > 0 && self.list(t).len() != c.inputs());
+        let default = self.default.as_ref().is_some_and(|t| !self.components.contains_key(t));
         twice || sizes || tags || places || counts || default && !self.wrong("7-without-default")
     }
 

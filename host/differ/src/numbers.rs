@@ -78,11 +78,7 @@ fn sphere(n: &[f64], p: &[f64; 3], fault: &str) -> f64 {
 
 fn torus(n: &[f64], p: &[f64; 3], fault: &str) -> f64 {
     let d = [p[0] - n[0], p[1] - n[1], p[2] - n[2]];
-    let (across, up) = if fault == "torus-axes" {
-        (d[1], d[2])
-    } else {
-        (d[2], d[1])
-    };
+    let (across, up) = if fault == "torus-axes" { (d[1], d[2]) } else { (d[2], d[1]) };
     let g = n[3] - root(d[0] * d[0] + across * across, fault);
     let s = g * g + up * up - n[4] * n[4];
     if s < 0.0 && fault != "torus-inside-nan" {
@@ -101,11 +97,7 @@ fn lerp(a: f64, b: f64, factor: f64, fault: &str) -> f64 {
 }
 
 fn thickness(a: f64, t: f64, zeros: Zeros, fault: &str) -> f64 {
-    let half = if fault == "thickness-whole" {
-        t
-    } else {
-        t / 2.0
-    };
+    let half = if fault == "thickness-whole" { t } else { t / 2.0 };
     max(a - half, -(a + half), zeros)
 }
 
@@ -120,11 +112,7 @@ fn difference(a: f64, b: f64, zeros: Zeros, fault: &str) -> f64 {
 /// The number of one component at a point, on the numbers in its places.
 pub fn compute(c: &Component, p: &[f64; 3], x: &[f64], zeros: Zeros, fault: &str) -> f64 {
     let n = &c.numbers;
-    let zeros = if fault == "zeros-as-the-rust" {
-        Zeros::First
-    } else {
-        zeros
-    };
+    let zeros = if fault == "zeros-as-the-rust" { Zeros::First } else { zeros };
     let nan = fault == "min-nan" && x.iter().any(|v| v.is_nan());
     match c.kind {
         "constant" => n[0],

@@ -27,11 +27,7 @@ fn clamped(x: f64, fault: &str) -> f64 {
 
 /// Whether Remap's new number lies too near its partner.
 fn near(c: &Component, at: usize, x: f64, fault: &str) -> bool {
-    let partner = c.numbers[if fault == "remap-other-pair" {
-        3 - at
-    } else {
-        at ^ 1
-    }];
+    let partner = c.numbers[if fault == "remap-other-pair" { 3 - at } else { at ^ 1 }];
     let apart = (x - partner).abs();
     match fault {
         "remap-at-most" => apart <= f64::EPSILON,
@@ -42,36 +38,19 @@ fn near(c: &Component, at: usize, x: f64, fault: &str) -> bool {
     }
 }
 
-pub fn set(
-    c: &mut Component,
-    t: &[u8],
-    name: &[u8],
-    data: &Data,
-    fault: &str,
-) -> Result<(), Refusal> {
+pub fn set(c: &mut Component, t: &[u8], name: &[u8], data: &Data, fault: &str) -> Result<(), Refusal> {
     if c.kind == "constant" {
         let Data::Value(x) = data else {
             return Err(Refusal(4, t.to_vec(), 0));
         };
-        refuse_if(
-            fault == "constant-takes-value-only" && name != b"Value",
-            4,
-            t,
-            0,
-        )?;
+        refuse_if(fault == "constant-takes-value-only" && name != b"Value", 4, t, 0)?;
         c.numbers[0] = *x;
         return Ok(());
     }
-    let same = |n: &str| {
-        n.as_bytes() == name
-            || fault == "names-without-case" && n.as_bytes().eq_ignore_ascii_case(name)
-    };
+    let same =
+        |n: &str| n.as_bytes() == name || fault == "names-without-case" && n.as_bytes().eq_ignore_ascii_case(name);
     let Some(&(found, at)) = names(c.kind).iter().find(|n| same(n.0)) else {
-        return if fault == "unfit-taken" {
-            Ok(())
-        } else {
-            Err(Refusal(4, t.to_vec(), 0))
-        };
+        return if fault == "unfit-taken" { Ok(()) } else { Err(Refusal(4, t.to_vec(), 0)) };
     };
     match (found, data) {
         ("Centre", Data::Vec3(v)) => c.numbers[..3].copy_from_slice(v),

@@ -19,34 +19,23 @@ const LONGEST: usize = 500;
 
 /// Every kind added by every call that takes it, wired, asked at two points, and given each of its parameters.
 fn kinds() -> Vec<Script> {
-    let numbers = [
-        "3ff0000000000000",
-        "bfe0000000000000",
-        "4000000000000000",
-        "4008000000000000",
-        "3fd3333333333333",
-    ];
+    let numbers = ["3ff0000000000000", "bfe0000000000000", "4000000000000000", "4008000000000000", "3fd3333333333333"];
     let point = format!("{} {} {}", numbers[3], numbers[1], numbers[4]);
     let one = |kind: &(&str, usize, usize)| {
         let words = [&[kind.0], &numbers[..kind.1]].concat().join(" ");
         let inputs = ["inputs", &kind.2.to_string(), "61", "62", "63"][..2 + kind.2].join(" ");
-        let mut script: Script = (0..3)
-            .map(|i| format!("add_constant 6{} {}", i + 1, numbers[i]))
-            .collect();
+        let mut script: Script = (0..3).map(|i| format!("add_constant 6{} {}", i + 1, numbers[i])).collect();
         script.push(format!("add_component 78 {words}"));
         script.push(format!("add_component 78 {words}"));
         script.extend((0..kind.2).map(|i| format!("add_input 78 6{} {i}", i + 1)));
         match (kind.0, kind.2) {
             ("constant", _) => script.push(format!("add_constant 79 {}", numbers[1])),
             (_, 0) => script.push(format!("add_function 79 {words}")),
-            _ => script.extend([
-                format!("add_operation 79 {words} {inputs}"),
-                format!("add_operation 7a {words} none"),
-            ]),
+            _ => {
+                script.extend([format!("add_operation 79 {words} {inputs}"), format!("add_operation 7a {words} none")])
+            }
         }
-        let names = crate::parameter::names(kind.0)
-            .iter()
-            .map(|n| crate::words::tag_word(n.0.as_bytes()));
+        let names = crate::parameter::names(kind.0).iter().map(|n| crate::words::tag_word(n.0.as_bytes()));
         script.extend(["78", "79"].map(|t| format!("evaluate_at {t} {point}")));
         for name in names.chain(["56616c7565".to_string()]) {
             script.push(format!("set_parameter 78 {name} value {}", numbers[4]));
@@ -69,9 +58,7 @@ fn is_open(before: &Model, c: &Command, compared: &Compared) -> bool {
             Rust::Free => asks,
             _ => false,
         },
-        (None, Command::Compile(_)) => {
-            compared.ours.answer != compared.rust.answer || !is_only_order(before, c)
-        }
+        (None, Command::Compile(_)) => compared.ours.answer != compared.rust.answer || !is_only_order(before, c),
         (None, _) => false,
     }
 }
@@ -80,9 +67,7 @@ fn is_open(before: &Model, c: &Command, compared: &Compared) -> bool {
 fn is_only_order(m: &Model, c: &Command) -> bool {
     let Command::Compile(t) = c else { return true };
     let order = crate::graph::order(m, t).unwrap_or_default();
-    order
-        .windows(2)
-        .all(|w| m.list(&w[1]).contains(&Some(w[0].clone())))
+    order.windows(2).all(|w| m.list(&w[1]).contains(&Some(w[0].clone())))
 }
 
 #[derive(Default)]
@@ -98,11 +83,7 @@ struct List {
 fn cells(line: &str, c: &Compared) -> Vec<String> {
     let words: Vec<&str> = line.split(' ').collect();
     let answer = kind_of_answer(&c.ours.answer);
-    let mut cells = vec![format!(
-        "{} / {answer} / {}",
-        words[0],
-        c.class.unwrap_or("same")
-    )];
+    let mut cells = vec![format!("{} / {answer} / {}", words[0], c.class.unwrap_or("same"))];
     if words[0] != "add_constant" && words[0].starts_with("add_") && words[0] != "add_input" {
         cells.push(format!("{} {}", words[0], words[2]));
     }
@@ -117,17 +98,13 @@ impl List {
             self.same += 1;
         } else {
             self.told += 1;
-            self.lines
-                .push(format!("! {} {ours}", class.unwrap_or("none")));
+            self.lines.push(format!("! {} {ours}", class.unwrap_or("none")));
         }
     }
 
     /// Whether another list has a cell that this one has too seldom.
     fn lacks(&self, other: &List) -> bool {
-        other
-            .cells
-            .keys()
-            .any(|cell| self.cells.get(cell).copied().unwrap_or(0) < OFTEN)
+        other.cells.keys().any(|cell| self.cells.get(cell).copied().unwrap_or(0) < OFTEN)
     }
 
     fn append(&mut self, other: List) {
@@ -154,14 +131,7 @@ impl List {
         list
     }
 
-    fn command(
-        &mut self,
-        line: &str,
-        known: &Command,
-        before: &Model,
-        c: &Compared,
-        longest: usize,
-    ) {
+    fn command(&mut self, line: &str, known: &Command, before: &Model, c: &Compared, longest: usize) {
         if is_open(before, known, c) {
             self.left_out += 1;
             return;
@@ -180,11 +150,7 @@ impl List {
 /// Prints the list; says on standard error what is in it, and in its last line what crate `replay` has to report.
 pub fn record(pair: &Pair, seed: u64) -> io::Result<usize> {
     let mut list = List::default();
-    let first: Vec<Script> = smallest::all()
-        .into_iter()
-        .map(|s| s.1)
-        .chain(kinds())
-        .collect();
+    let first: Vec<Script> = smallest::all().into_iter().map(|s| s.1).chain(kinds()).collect();
     let mut finds = 0;
     for (script, compared) in first.iter().zip(pair.compare(&first)?) {
         finds += compared.iter().filter(|c| c.unexplained.is_some()).count();
@@ -207,11 +173,11 @@ pub fn record(pair: &Pair, seed: u64) -> io::Result<usize> {
     for (cell, n) in &list.cells {
         eprintln!("{n:>6} {cell}");
     }
-    eprintln!(
-        "{} answers left out, since a hash map decides them; {finds} unexplained",
-        list.left_out
-    );
+    eprintln!("{} answers left out, since a hash map decides them; {finds} unexplained", list.left_out);
     let (same, told) = (list.same, list.told);
-    eprintln!("{} answers of the Rust: {same} the same, {told} differ as docs/DIFFERENCES.md says, 0 unexplained", same + told);
+    eprintln!(
+        "{} answers of the Rust: {same} the same, {told} differ as docs/DIFFERENCES.md says, 0 unexplained",
+        same + told
+    );
     Ok(finds)
 }

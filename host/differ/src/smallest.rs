@@ -61,23 +61,9 @@ fn full_lists() -> Script {
 /// 19 operations, each wired twice to the one before, and the last to another.
 fn doubled() -> Script {
     let before = |i: usize| named('k', i - 1);
-    let operation = |i: usize| {
-        format!(
-            "add_operation {} Add inputs 2 {} {}",
-            named('k', i),
-            before(i),
-            before(i)
-        )
-    };
-    let last = [
-        OFFSET.to_string(),
-        format!("add_input 61 {} 0", named('k', 19)),
-    ];
-    [constant(named('k', 0))]
-        .into_iter()
-        .chain((1..20).map(operation))
-        .chain(last)
-        .collect()
+    let operation = |i: usize| format!("add_operation {} Add inputs 2 {} {}", named('k', i), before(i), before(i));
+    let last = [OFFSET.to_string(), format!("add_input 61 {} 0", named('k', 19))];
+    [constant(named('k', 0))].into_iter().chain((1..20).map(operation)).chain(last).collect()
 }
 
 pub fn all() -> Vec<(&'static str, Script)> {
@@ -90,8 +76,6 @@ pub fn all() -> Vec<(&'static str, Script)> {
         ("size-16", full_lists()),
         ("size-17", vec![constant(long(31)), numbered]),
     ];
-    let short = SHORT
-        .iter()
-        .map(|(class, script)| (*class, script.iter().map(|l| l.to_string()).collect()));
+    let short = SHORT.iter().map(|(class, script)| (*class, script.iter().map(|l| l.to_string()).collect()));
     short.chain(computed).collect()
 }

@@ -35,11 +35,7 @@ impl Component {
 
     pub fn words(&self) -> String {
         let numbers = self.numbers.iter().map(|&x| bits_word(x));
-        [self.kind.to_string()]
-            .into_iter()
-            .chain(numbers)
-            .collect::<Vec<_>>()
-            .join(" ")
+        [self.kind.to_string()].into_iter().chain(numbers).collect::<Vec<_>>().join(" ")
     }
 }
 
@@ -194,11 +190,7 @@ impl<'a> Words<'a> {
             let places = (0..count).map(|_| self.place()).collect::<Option<_>>()?;
             lists.push((tag, places));
         }
-        Some(Record {
-            default,
-            components,
-            lists,
-        })
+        Some(Record { default, components, lists })
     }
 
     fn operator(&mut self) -> Option<Command> {
@@ -216,13 +208,7 @@ impl<'a> Words<'a> {
             "new" => Command::New,
             "add_constant" => {
                 let (tag, number) = (self.tag()?, self.number()?);
-                Command::AddConstant(
-                    tag,
-                    Component {
-                        kind: "constant",
-                        numbers: vec![number],
-                    },
-                )
+                Command::AddConstant(tag, Component { kind: "constant", numbers: vec![number] })
             }
             "add_function" => Command::AddFunction(self.tag()?, self.component()?),
             "add_operation" => Command::AddOperation(self.tag()?, self.component()?, self.given()?),
