@@ -1,3 +1,4 @@
 pub mod ModelBytes
 pub mod Calls
 pub mod Steps
+pub mod Holds

@@ -65,7 +65,7 @@ pub struct ListsRead {
 }
 
 // Whether the bytes from a place up to another are 0.
-fn is_blank(s: &[u8], start: usize, end: usize) -> bool
+pub(crate) fn is_blank(s: &[u8], start: usize, end: usize) -> bool
     requires { ⌜ (start ≤ end) × (end ≤ length (now s)) ⌝ }
     ensures { λ r. ⌜ r ≡ blank (now (s .entry)) start (end - start) ⌝ }
 {
@@ -201,7 +201,7 @@ fn same_words(v: ComponentWords, w: ComponentWords) -> bool
 }
 
 // The component at a place, where the words are the component's own: a NaN has the one NaN's bits, and unused words are 0.
-fn read_component(s: &[u8], at: usize) -> ComponentRead
+pub(crate) fn read_component(s: &[u8], at: usize) -> ComponentRead
     requires { ⌜ at + 48 ≤ length (now s) ⌝ }
     ensures { λ r. ⌜ componentRead r ≡ componentIn (now (s .entry)) at ⌝ }
 {
@@ -391,7 +391,7 @@ fn read_lists(s: &[u8], n: usize) -> ListsRead
 }
 
 // Whether the length, the version and the counts are a model's.
-fn is_headed(s: &[u8]) -> bool
+pub(crate) fn is_headed(s: &[u8]) -> bool
     ensures { λ r. ⌜ r ≡ headed (now (s .entry)) ⌝ }
 {
     if s.len() != 27200 {

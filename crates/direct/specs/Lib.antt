@@ -1,0 +1,4 @@
+pub mod Names
+pub mod Standing
+pub mod Along
+pub mod Evaluate
