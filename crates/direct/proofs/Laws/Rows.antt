@@ -15,7 +15,7 @@ use Rattle.tag.specs.Tags.{Tag, is}
 use Rattle.tag.proofs.Laws.Is.{is-refl, is-true, is-false}
 use Rattle.model.specs.Table.{all, Table, find, distinct}
 use Rattle.model.proofs.Laws.Bool.{and-T}
-use Rattle.model.proofs.Laws.Changes.{appended}
+use Rattle.held.proofs.Laws.Changes.{appended}
 use Rattle.model.proofs.Laws.Valid.{some-some, none-some}
 use Rattle.model_bytes.specs.ModelBytes.{append, rowsIn}
 
