@@ -55,6 +55,10 @@ componentOfWords w = spelled w (componentFrom (w .kind) (w .a) (w .b) (w .c) (w 
 unfoldable pub componentIn : List ℕ → ℕ → Option Component
 componentIn s at = componentOfWords (sixIn s at)
 
+-- three words
+abbrev pub threeIn : List ℕ → ℕ → ℕ × (ℕ × ℕ)
+threeIn s at = (word s at, (word s (at + 8), word s (at + 16)))
+
 -- ---- rows
 
 abbrev pub append : {A : Type 0} → Option (List A) → Option A → Option (List A)

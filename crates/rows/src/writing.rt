@@ -17,7 +17,7 @@ ghost use lib.ListN.{length, take, drop};
 ghost use Rattle.tag.specs.View.{bytesOf};
 ghost use Rattle.model.specs.View.{placeOf};
 ghost use Rattle.layout.specs.Words.{word};
-ghost use Rattle.rows.specs.Rows.{blank, textIn, tagIn, placeIn, sixIn, componentIn, rowsIn, placeRow, placesIn, placesOf};
+ghost use Rattle.rows.specs.Rows.{blank, textIn, tagIn, placeIn, sixIn, componentIn, rowsIn, placeRow, placesIn, placesOf, threeIn};
 ghost use Rattle.rows.specs.Written.{Wrote, Writes};
 
 // Whether n bytes from a place on are in the slice.
@@ -158,7 +158,7 @@ fn put_places(s: &mut [u8], at: usize, l: InputList, n: usize)
 }
 
 // And 0 past their count.
-fn put_three(s: &mut [u8], at: usize, l: InputList)
+fn put_list_places(s: &mut [u8], at: usize, l: InputList)
     requires { ⌜ at + 120 ≤ length (now s) ⌝ }
     ensures { λ _. ⌜ Wrote (λ u. placesIn (min (l .count) 3) u at) (some (placesOf (l .count) l)) at 120 (now (s .entry)) (now (s .exit)) ⌝ }
 {
@@ -172,6 +172,24 @@ pub fn write_places(s: &mut [u8], at: usize, l: InputList)
     ensures { λ _. ⌜ Writes (λ u. placesIn (min (l .count) 3) u at) (some (placesOf (l .count) l)) at 120 (now (s .entry)) (now (s .exit)) ⌝ }
 {
     if has_room(s, at, 120) {
-        put_three(s, at, l);
+        put_list_places(s, at, l);
+    }
+}
+
+fn put_three(s: &mut [u8], at: usize, a: u64, b: u64, c: u64)
+    requires { ⌜ at + 24 ≤ length (now s) ⌝ }
+    ensures { λ _. ⌜ Wrote (λ u. threeIn u at) (a, (b, c)) at 24 (now (s .entry)) (now (s .exit)) ⌝ }
+{
+    put_word(s, at, a);
+    put_word(s, at + 8, b);
+    put_word(s, at + 16, c);
+}
+
+// Writes three words, 24 bytes.
+pub fn write_three(s: &mut [u8], at: usize, a: u64, b: u64, c: u64)
+    ensures { λ _. ⌜ Writes (λ u. threeIn u at) (a, (b, c)) at 24 (now (s .entry)) (now (s .exit)) ⌝ }
+{
+    if has_room(s, at, 24) {
+        put_three(s, at, a, b, c);
     }
 }

@@ -24,7 +24,7 @@ use Rattle.layout.specs.declared.component_numbers.ComponentWords.{ComponentWor
 use Rattle.layout.specs.Numbers.{Worded}
 use Rattle.layout.proofs.Put.{word-kept, word-back}
 use Rattle.layout.proofs.Kept.{kept-none, kept-then, Agree, agree-below, word-same, bytes-same}
-use Rattle.rows.specs.Rows.{blank, textIn, tagIn, placeFrom, placeIn, sixIn, sameWords, spelled, componentOfWords, componentIn, rowsIn, placeRow, placesIn, placesOf}
+use Rattle.rows.specs.Rows.{blank, textIn, tagIn, placeFrom, placeIn, sixIn, sameWords, spelled, componentOfWords, componentIn, rowsIn, placeRow, placesIn, placesOf, threeIn}
 use Rattle.rows.specs.Written.{Wrote, Writes}
 use Rattle.rows.proofs.Laws.Reading.{blank-more, text-clean, rows-append, places-is}
 use Rattle.rows.proofs.Laws.Local.{blank-local, place-local, rows-local}
@@ -150,6 +150,16 @@ module _ (w : ComponentWords) {at : ℕ} {s t u v x y z : List ℕ} where
       record {
         kept = kept-then at 48 (k .kept) ae (omega arith) (omega arith) (omega arith) (omega arith);
         holds = rw (word-stays at ae (omega arith) (k .holds), word-stays (at + 8) be (omega arith) (a .holds), word-stays (at + 16) ce (omega arith) (b .holds), word-stays (at + 24) de (omega arith) (c .holds), word-stays (at + 32) (e .kept) (omega arith) (d .holds), e .holds);
+      }
+
+module _ {a b c at : ℕ} {s t u v : List ℕ} where
+  pub words-wrote : Wrote (λ v. word v at) a at 8 s t → Wrote (λ v. word v (at + 8)) b (at + 8) 8 t u → Wrote (λ v. word v (at + 16)) c (at + 16) 8 u v
+      → Wrote (λ v. threeIn v at) (a, (b, c)) at 24 s v
+  words-wrote p q r =
+      let qr = both-kept q r (at + 8) 16 (omega arith) (omega arith) (omega arith) (omega arith) in
+      record {
+        kept = kept-then at 24 (p .kept) qr (omega arith) (omega arith) (omega arith) (omega arith);
+        holds = rw (word-stays at qr (omega arith) (p .holds), word-stays (at + 8) (r .kept) (omega arith) (q .holds), r .holds);
       }
 
 pub component-wrote : (c : Component) {w : ComponentWords} {at : ℕ} {s t : List ℕ} → Worded c w → Wrote (λ v. sixIn v at) w at 48 s t → Wrote (λ v. componentIn v at) (some c) at 48 s t

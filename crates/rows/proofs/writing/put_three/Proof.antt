@@ -1,47 +1,29 @@
 -- `put_three` meets its contract. Assumes nothing.
-use native.Mathlib.Omega.{arith}
 use borrow.Author.Needs.{needs}
-use Rattle.rows.proofs.Laws.Writing.{three-wrote}
+use Rattle.rows.proofs.Laws.Writing.{words-wrote}
 use Rattle.rows.proofs.writing.put_three.Statement.{statement}
 use Rattle.rows.proofs.writing.put_three.Tie as tie
 
-places-held-requires : tie.Need-places-held-requires
-places-held-requires c κs = search needs
+put-word-requires : tie.Need-put-word-requires
+put-word-requires c κs = search needs
 
-put-places-requires : tie.Need-put-places-requires
-put-places-requires c κs = (omega arith, c .before .places-held .ensures .bound)
+add-put-word : tie.Need-add-put-word
+add-put-word c = search needs
 
-mul-clear : tie.Need-mul-clear
-mul-clear c = omega (arith, c .before .before .before .before .before .places-held .ensures .bound)
+put-word-requires-2 : tie.Need-put-word-requires-2
+put-word-requires-2 c κs = search needs
 
-add-clear : tie.Need-add-clear
-add-clear c = omega (arith, c .before .before .before .before .before .places-held .ensures .bound)
+add-put-word-2 : tie.Need-add-put-word-2
+add-put-word-2 c = search needs
 
-sub-clear : tie.Need-sub-clear
-sub-clear c = omega (arith, c .before .before .before .before .before .places-held .ensures .bound)
-
-mul-clear-2 : tie.Need-mul-clear-2
-mul-clear-2 c = omega (arith, c .before .before .before .before .before .places-held .ensures .bound)
-
-clear-requires : tie.Need-clear-requires
-clear-requires c κs = omega (arith, c .before .before .before .before .before .places-held .ensures .bound)
+put-word-requires-3 : tie.Need-put-word-requires-3
+put-word-requires-3 c κs = search needs
 
 same-length : tie.Need-same-length
 same-length c = search needs
 
 returns : tie.Need-returns
-returns c = three-wrote (c .before .before .before .before .before .before .before .before .before .before .args .l) (c .before .before .before .before .before .before .before .before .places-held .ensures) (c .before .before .before .before .before .before .put-places .ensures) (c .before .before .clear .ensures)
+returns c = words-wrote (c .before .before .before .before .before .before .before .before .before .before .put-word .ensures) (c .before .before .before .before .before .before .put-word2 .ensures) (c .before .before .put-word3 .ensures)
 
 pub put-three-spec : {M : Type 1} → statement M
-put-three-spec =
-    tie.close
-    (tie.spec
-    places-held-requires
-    put-places-requires
-    mul-clear
-    add-clear
-    sub-clear
-    mul-clear-2
-    clear-requires
-    same-length
-    returns)
+put-three-spec = tie.close (tie.spec put-word-requires add-put-word put-word-requires-2 add-put-word-2 put-word-requires-3 same-length returns)
