@@ -5,9 +5,10 @@ use mathlib.Core.Option.{some}
 use native.Mathlib.Omega.{arith}
 use lib.ListN.{length}
 use Rattle.model.specs.View.{rows, componentOf, entryFits}
-use Rattle.held.proofs.Laws.Rows.{no-entry}
-use Rattle.model_bytes.specs.ModelBytes.{rowsIn, entryRow}
-use Rattle.model_bytes.specs.Steps.{Wrote}
+use Rattle.model.proofs.Laws.Rows.{no-entry}
+use Rattle.rows.specs.Rows.{rowsIn}
+use Rattle.model_bytes.specs.ModelBytes.{entryRow}
+use Rattle.rows.specs.Written.{Wrote}
 use Rattle.model_bytes.proofs.Laws.Writing.{entries-none, entries-more, row-fits}
 use Rattle.model_bytes.proofs.encode.write_components.Statement.{statement}
 use Rattle.model_bytes.proofs.encode.write_components.Tie as tie
