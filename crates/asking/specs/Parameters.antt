@@ -7,7 +7,7 @@ use mathlib.Core.Option.{Option, none, some}
 use Rattle.tag.specs.Tags.{Tag, overlong, empty}
 use Rattle.component.specs.Value.{inputCount}
 use Rattle.component.specs.Parameter.{Name, readParameter}
-use Rattle.component.specs.Names.{typeName, parameterAt}
+use Rattle.naming.specs.Names.{typeName, parameterAt}
 use Rattle.component.specs.declared.parameter.Data.the-variants.{Value, Vec3 as Vector, Boolean}
 use Rattle.component.specs.declared.parameter.DataType.{DataType}
 use Rattle.component.specs.declared.parameter.DataType.the-variants.{Value as TakesValue, Vec3 as TakesVector, Nothing as TakesNothing}

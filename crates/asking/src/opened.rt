@@ -1,5 +1,5 @@
 // What the calls share: the model that bytes hold, and the report.
-use model::validity::is_valid;
+use held::validity::is_valid;
 use model_bytes::decode::Decoded;
 use model_bytes::decode::decode;
 use report::write_report;

@@ -13,7 +13,8 @@ use Rattle.model.specs.Model.{Place, Model, component, inputs, valid}
 use Rattle.layout.specs.Words.{word, text}
 use Rattle.layout.specs.Components.{componentFrom}
 use Rattle.layout.specs.declared.component_numbers.ComponentWords.{ComponentWords}
-use Rattle.model_bytes.specs.ModelBytes.{sixIn, modelIn}
+use Rattle.rows.specs.Rows.{sixIn}
+use Rattle.model_bytes.specs.ModelBytes.{modelIn}
 use Rattle.direct.specs.Names.{componentAt, listAt}
 
 -- the component of six words

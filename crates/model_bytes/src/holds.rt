@@ -8,7 +8,8 @@ ghost use mathlib.Core.Path.{_≡_};
 ghost use mathlib.Core.Bool.{true};
 ghost use Prim.Native.Nat.{_+_, _≤_};
 ghost use lib.ListN.{length};
-ghost use Rattle.model_bytes.specs.ModelBytes.{textIn, tagIn, placeIn, rowsIn, entryIn, placeRow, listIn, entryRow, listRow, modelIn};
+ghost use Rattle.rows.specs.Rows.{textIn, tagIn, placeIn, rowsIn, placeRow};
+ghost use Rattle.model_bytes.specs.ModelBytes.{entryIn, listIn, entryRow, listRow, modelIn};
 ghost use Rattle.model_bytes.specs.Holds.{Held};
 
 fn is_text(s: &[u8], at: usize, n: usize) -> bool

@@ -16,8 +16,8 @@ use Rattle.model.specs.Model.{Place, shortPlace}
 use Rattle.model.proofs.Laws.Bool.{true→T}
 use Rattle.model.proofs.Laws.Valid.{some-some, none-some}
 use Rattle.layout.specs.Words.{four, word, text}
-use Rattle.model_bytes.specs.ModelBytes.{blank, textIn, tagIn, placeFrom, placeIn}
-use Rattle.model_bytes.proofs.Laws.Tests.{and-left, and-right}
+use Rattle.rows.specs.Rows.{blank, textIn, tagIn, placeFrom, placeIn}
+use Rattle.rows.proofs.Laws.Tests.{and-left, and-right}
 use Rattle.model_bytes.proofs.Laws.Reading.{blank-fail}
 use Rattle.direct.specs.Names.{keyIn}
 

@@ -16,9 +16,10 @@ use Rattle.model.proofs.Laws.Valid.{some-some, none-some}
 use Rattle.layout.specs.Words.{word}
 use Rattle.layout.specs.Numbers.{wordsOf}
 use Rattle.layout.specs.declared.component_numbers.ComponentWords.{ComponentWords}
-use Rattle.model_bytes.specs.ModelBytes.{blank, tagIn, placeIn, sixIn, sameWords, spelled, componentOfWords, componentIn, both, rowsIn, entryIn, placeRow, placesIn, listIn, headed, entryRow, listRow, joined, modelIn}
+use Rattle.rows.specs.Rows.{blank, tagIn, placeIn, sixIn, sameWords, spelled, componentOfWords, componentIn, rowsIn, placeRow, placesIn}
+use Rattle.model_bytes.specs.ModelBytes.{both, entryIn, listIn, headed, entryRow, listRow, joined, modelIn}
 use Rattle.model_bytes.specs.Holds.{Held}
-use Rattle.model_bytes.proofs.Laws.Tests.{and-left}
+use Rattle.rows.proofs.Laws.Tests.{and-left}
 use Rattle.model_bytes.proofs.Laws.Decoding.{Head, head}
 use Rattle.direct.specs.Names.{componentAt, listAt}
 use Rattle.direct.specs.Standing.{fromSix, componentRow, tagOf}

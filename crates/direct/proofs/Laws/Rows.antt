@@ -17,7 +17,7 @@ use Rattle.model.specs.Table.{all, Table, find, distinct}
 use Rattle.model.proofs.Laws.Bool.{and-T}
 use Rattle.held.proofs.Laws.Changes.{appended}
 use Rattle.model.proofs.Laws.Valid.{some-some, none-some}
-use Rattle.model_bytes.specs.ModelBytes.{append, rowsIn}
+use Rattle.rows.specs.Rows.{append, rowsIn}
 
 -- n rows, each of which holds something
 pub data Built {A : Type 0} (row : ℕ → Option A) : ℕ → List A → Type 0 where

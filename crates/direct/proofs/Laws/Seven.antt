@@ -18,7 +18,8 @@ use Rattle.model.specs.Model.{Place, Model, component, list, inputs, shortPlace
 use Rattle.model.proofs.Laws.Bool.{true→T, and-T}
 use Rattle.model.proofs.Laws.Valid.{some-some, none-some, found-held, Good, good-valid}
 use Rattle.layout.specs.Words.{word, text}
-use Rattle.model_bytes.specs.ModelBytes.{placeIn, entryRow, listRow, modelIn}
+use Rattle.rows.specs.Rows.{placeIn}
+use Rattle.model_bytes.specs.ModelBytes.{entryRow, listRow, modelIn}
 use Rattle.model_bytes.specs.Holds.{Held}
 use Rattle.direct.specs.Names.{componentAt, listAt, keyIn, Keys, Apart}
 use Rattle.direct.specs.Standing.{componentRow, tagOf, PlaceNames, Owner, Owners, Filled, DefaultNamed, Wire, Wires, Leads, Stands}

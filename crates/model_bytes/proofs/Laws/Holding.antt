@@ -12,10 +12,12 @@ use Rattle.component.specs.declared.model_component.Component.{Component}
 use Rattle.model.specs.Table.{Table}
 use Rattle.model.specs.Model.{Place, Model}
 use Rattle.layout.specs.Words.{word}
-use Rattle.model_bytes.specs.ModelBytes.{blank, textIn, tagIn, placeFrom, placeIn, componentIn, rowsIn, entryIn, placeRow, listIn, headed, entryRow, listRow, joined, modelIn}
+use Rattle.rows.specs.Rows.{blank, textIn, tagIn, placeFrom, placeIn, componentIn, rowsIn, placeRow}
+use Rattle.model_bytes.specs.ModelBytes.{entryIn, listIn, headed, entryRow, listRow, joined, modelIn}
 use Rattle.model_bytes.specs.Holds.{Held}
-use Rattle.model_bytes.proofs.Laws.Tests.{apart}
-use Rattle.model_bytes.proofs.Laws.Reading.{blank-as, rows-append, entry-is, list-is}
+use Rattle.rows.proofs.Laws.Tests.{apart}
+use Rattle.rows.proofs.Laws.Reading.{rows-append}
+use Rattle.model_bytes.proofs.Laws.Reading.{blank-as, entry-is, list-is}
 
 -- a no says nothing
 pub not-held : {A : Type 0} {there : Option A} → false ≡ true → Held there

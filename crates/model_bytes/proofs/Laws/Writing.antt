@@ -11,7 +11,7 @@ use Rattle.tag.specs.View.{bytesOf}
 use Rattle.model.specs.declared.implicit_model.ComponentEntry.{ComponentEntry}
 use Rattle.model.specs.declared.implicit_model.InputList.{InputList}
 use Rattle.model.specs.View.{rows, every, componentOf, listOf}
-use Rattle.model.proofs.Laws.Rows.{no-entry, no-list, rows-length, rows-at}
+use Rattle.held.proofs.Laws.Rows.{no-entry, no-list, rows-length, rows-at}
 use Rattle.layout.specs.Words.{word}
 use Rattle.layout.proofs.Kept.{kept-then, agree-below}
 use Rattle.rows.specs.Rows.{tagIn, componentIn, rowsIn, placesIn, placesOf}

@@ -16,8 +16,8 @@ use Rattle.component.specs.declared.model_component.Component.{Component}
 use Rattle.model.specs.declared.implicit_model.Place.{Place as PlaceRecord}
 use Rattle.model.specs.declared.implicit_model.InputList.{InputList}
 use Rattle.model.specs.View.{rows, placeOf}
-use Rattle.model.specs.Search.{Live}
-use Rattle.model.proofs.Laws.Rows.{no-place, rows-less, rows-more}
+use Rattle.held.specs.Search.{Live}
+use Rattle.held.proofs.Laws.Rows.{no-place, rows-less, rows-more}
 use Rattle.layout.specs.Words.{word}
 use Rattle.layout.specs.Writing.{Kept, putWord}
 use Rattle.layout.specs.declared.component_numbers.ComponentWords.{ComponentWords}

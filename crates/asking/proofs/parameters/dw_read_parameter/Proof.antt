@@ -3,7 +3,7 @@ use borrow.Author.Needs.{needs}
 use mathlib.Core.Path.{refl, sym, ap, _∙_}
 use mathlib.Core.Option.{none, some}
 use borrow.Author.Tests.{not-true, not-false}
-use Rattle.model.specs.Reading.{componentRead}
+use Rattle.held.specs.Reading.{componentRead}
 use Rattle.asking.specs.Parameters.{read}
 use Rattle.asking.proofs.Laws.Tables.{label-whole}
 use Rattle.asking.proofs.Laws.Parameters.{unread-shown, read-shown, read-7, read-1, read-found}

@@ -3,7 +3,7 @@ use borrow.Author.Needs.{needs}
 use mathlib.Core.Path.{sym, ap, _∙_}
 use mathlib.Core.Option.{none, some}
 use borrow.Author.Tests.{not-true, not-false}
-use Rattle.model.specs.Reading.{componentRead}
+use Rattle.held.specs.Reading.{componentRead}
 use Rattle.asking.proofs.Laws.Tables.{label-whole, component-refused, component-nothing, component-shown, component-7, component-long, component-found}
 use Rattle.asking.proofs.tables.dw_get_component.Statement.{statement}
 use Rattle.asking.proofs.tables.dw_get_component.Tie as tie

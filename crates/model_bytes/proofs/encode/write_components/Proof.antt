@@ -5,7 +5,7 @@ use mathlib.Core.Option.{some}
 use native.Mathlib.Omega.{arith}
 use lib.ListN.{length}
 use Rattle.model.specs.View.{rows, componentOf, entryFits}
-use Rattle.model.proofs.Laws.Rows.{no-entry}
+use Rattle.held.proofs.Laws.Rows.{no-entry}
 use Rattle.rows.specs.Rows.{rowsIn}
 use Rattle.model_bytes.specs.ModelBytes.{entryRow}
 use Rattle.rows.specs.Written.{Wrote}

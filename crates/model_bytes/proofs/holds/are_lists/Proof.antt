@@ -2,7 +2,8 @@
 use Prim.Native.Nat.{_-_, _≤_}
 use mathlib.Core.Path.{_≡_}
 use borrow.Author.Tests.{not-false}
-use Rattle.model_bytes.specs.ModelBytes.{rowsIn, listRow}
+use Rattle.rows.specs.Rows.{rowsIn}
+use Rattle.model_bytes.specs.ModelBytes.{listRow}
 use Rattle.model_bytes.specs.Holds.{Held}
 use Rattle.model_bytes.proofs.Laws.Holding.{not-held, none-held, more-held, all-held}
 use native.Mathlib.Omega.{arith}

@@ -2,7 +2,7 @@
 use Prim.Native.Nat.{_-_, _≤_}
 use mathlib.Core.Path.{_≡_}
 use borrow.Author.Tests.{not-false}
-use Rattle.model_bytes.specs.ModelBytes.{rowsIn, placeRow}
+use Rattle.rows.specs.Rows.{rowsIn, placeRow}
 use Rattle.model_bytes.specs.Holds.{Held}
 use Rattle.model_bytes.proofs.Laws.Holding.{not-held, none-held, more-held, all-held}
 use native.Mathlib.Omega.{arith}
