@@ -2,6 +2,7 @@
 use crate::opened::opened;
 use crate::opened::say;
 use crate::opened::say_code;
+use direct::evaluate::evaluate_in;
 use float::bits::float_of;
 use graph::computation_graph::CompiledGraph;
 use graph::computation_graph::Compiling;
@@ -55,6 +56,33 @@ fn reply_bits(e: Evaluating) -> u64
     }
 }
 
+// The number of the target's form at a point, or a refusal, of the model decoded.
+fn evaluate_decoded(model: &[u8], target: &[u8], x: f64, y: f64, z: f64, out: &mut [u8]) -> u32
+    ensures { λ r. ⌜ Evaluates (now (model .entry)) (now (target .entry)) (pointOf x y z) (now (out .entry)) (now (out .exit)) r ⌝ }
+{
+    let d = decode(model);
+    if !d.ok {
+        return say_code(out, 7);
+    }
+    let m = d.model;
+    let r = evaluate_at(m, target, x, y, z);
+    let e = r.answer;
+    let t = r.tag;
+    say(out, reply_code(e), r.index as u64, t, reply_bits(e))
+}
+
+// The number of the target's form at a point, straight from the bytes where that gives one, else as the model decoded answers.
+fn evaluate(model: &[u8], target: &[u8], x: f64, y: f64, z: f64, out: &mut [u8]) -> u32
+    ensures { λ r. ⌜ Evaluates (now (model .entry)) (now (target .entry)) (pointOf x y z) (now (out .entry)) (now (out .exit)) r ⌝ }
+{
+    let direct = evaluate_in(model, target, x, y, z);
+    if direct.ok {
+        let t = tag::empty_tag();
+        return say(out, 0, 0, t, direct.bits);
+    }
+    evaluate_decoded(model, target, x, y, z, out)
+}
+
 // The number of the target's form at a point, or a refusal.
 #[no_mangle]
 pub extern "C" fn dw_evaluate_at(
@@ -67,15 +95,7 @@ pub extern "C" fn dw_evaluate_at(
 ) -> u32
     ensures { λ r. ⌜ Evaluates (now (model .entry)) (now (target .entry)) (pointOf (number x) (number y) (number z)) (now (out .entry)) (now (out .exit)) r ⌝ }
 {
-    let d = decode(model);
-    if !d.ok {
-        return say_code(out, 7);
-    }
-    let m = d.model;
-    let r = evaluate_at(m, target, float_of(x), float_of(y), float_of(z));
-    let e = r.answer;
-    let t = r.tag;
-    say(out, reply_code(e), r.index as u64, t, reply_bits(e))
+    evaluate(model, target, float_of(x), float_of(y), float_of(z), out)
 }
 
 fn ending_code(a: Compiling) -> u32

@@ -36,6 +36,7 @@ use Rattle.model_bytes.specs.declared.decode.Decoded.{Decoded}
 use Rattle.model_bytes.specs.ModelBytes.{modelIn}
 use Rattle.model_bytes.specs.Calls.{Decodes}
 use Rattle.report.specs.Report.{Report, ofReply}
+use Rattle.direct.specs.Evaluate.{EvaluatesIn}
 use Rattle.asking.specs.Said.{heldIn, plain, Says, Opens}
 use Rattle.asking.specs.Form.{checked, Replies, Evaluates, Ends, ofEnding, tagRow, OrderIn, Compiles, replyCode, replyBits, endingCode, tagsOf}
 use Rattle.asking.proofs.Laws.Said.{says-as, unheld, held, judged}
@@ -100,10 +101,20 @@ module _ {s : List ℕ} {d : Decoded} {out after : List ℕ} {code : ℕ} (t : T
         ∙ reported-as (r .answer) (h .plain));
   }
 
-pub point-as : {m : Record} {t : Tag} {r : Evaluation} (a b c : Float) {x y z : Float} → a ≡ x → b ≡ y → c ≡ z → EvaluatesAs m t (pointOf a b c) r → EvaluatesAs m t (pointOf x y z) r
-point-as {m} {t} {r} a b c {x} {y} {z} e f g h =
-    subst (λ (q : Float). EvaluatesAs m t (pointOf x y q) r) g
-    (subst (λ (q : Float). EvaluatesAs m t (pointOf x q c) r) f (subst (λ (q : Float). EvaluatesAs m t (pointOf q b c) r) e h))
+-- straight from the bytes
+pub evaluate-direct : {s : List ℕ} {t u : Tag} {x y z : Float} {b : ℕ} {out after : List ℕ} {code : ℕ} → EvaluatesIn s t x y z b → u ≡ empty
+    → Says (record { code = 0; index = 0; tag = u; number = b }) out after code → Evaluates s t (pointOf x y z) out after code
+evaluate-direct {t = t} {x = x} {y = y} {z = z} {b = b} d e q = record {
+  reply = bits b;
+  defined = subst (λ (o : Option Model). Replies o t (pointOf x y z) (bits b)) (sym (d .is)) (d .answers);
+  says = says-as q (ap (λ (u : Tag). record { code = 0; index = 0; tag = u; number = b }) e);
+}
+
+pub point-as : {s : List ℕ} {t : Tag} {out after : List ℕ} {code : ℕ} (a b c : Float) {x y z : Float} → a ≡ x → b ≡ y → c ≡ z
+    → Evaluates s t (pointOf a b c) out after code → Evaluates s t (pointOf x y z) out after code
+point-as {s} {t} {out} {after} {code} a b c {x} {y} {z} e f g h =
+    subst (λ (q : Float). Evaluates s t (pointOf x y q) out after code) g
+    (subst (λ (q : Float). Evaluates s t (pointOf x q c) out after code) f (subst (λ (q : Float). Evaluates s t (pointOf q b c) out after code) e h))
 
 -- ---- the tags of an order
 
