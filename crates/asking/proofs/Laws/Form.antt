@@ -15,7 +15,7 @@ use Rattle.model.specs.declared.implicit_model.Model.{Model as Record}
 use Rattle.model.specs.declared.model_error.ModelError.{ModelError}
 use Rattle.model.specs.Answer.{numberOf}
 use Rattle.model.specs.Model.{Model, valid}
-use Rattle.model.specs.Form.{Compiling as Ending, ordered, stopped, Compiled, refusal, invalid, Reply, handed, Evaluated, refused-by}
+use Rattle.model.specs.Form.{Compiling as Ending, ordered, stopped, Compiled, refusal, invalid, Reply, handed, Evaluated, refused-by, bits}
 use Rattle.model.specs.View.{rows, componentOf, componentsOf, view, fits, passes}
 use Rattle.held.proofs.Laws.Rows.{no-entry, rows-length, rows-at}
 use Rattle.graph.specs.declared.computation_graph.Compiling.{Compiling}
