@@ -9,7 +9,7 @@ use lib.ListN.{length}
 use Rattle.tag.specs.Tags.{Tag, empty}
 use Rattle.geometry.specs.declared.vec3f.Vec3.{Vec3}
 use Rattle.model.specs.Model.{Model, new, valid}
-use Rattle.model.specs.Edit.{Edit, Answer, done, refused}
+use Rattle.model.specs.Edit.{Edit, done, refused}
 use Rattle.model.specs.Form.{Compiles, Number, Reply, bits, handed, Evaluated}
 use Rattle.model_bytes.specs.ModelBytes.{modelIn}
 use Rattle.report.specs.Report.{reported, ofAnswer, ofReply}

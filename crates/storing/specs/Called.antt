@@ -5,7 +5,7 @@ use mathlib.Core.Bool.{true}
 use mathlib.Core.List.{List}
 use mathlib.Core.Option.{Option, none, some}
 use lib.ListN.{length}
-use Rattle.tag.specs.Tags.{empty}
+use Rattle.tag.specs.Tags.{Tag, empty}
 use Rattle.model.specs.Model.{Model, Same, valid}
 use Rattle.model.specs.Edit.{Edit, Answer, refused, apply}
 use Rattle.model_bytes.specs.ModelBytes.{modelIn}
@@ -29,6 +29,8 @@ pub record Holds (m : Model) (s t : List ℕ) : Type 0 where
 pub record Called (e : Edit) (s t out after : List ℕ) (r : ℕ) : Type 0 where
   pub code : r ≡ ofAnswer (answerIn e (modelIn s)) .code
   pub report : after ≡ reported out (ofAnswer (answerIn e (modelIn s)))
+  -- 0 is no refusal's number
+  pub apart : {n : ℕ} {u : Tag} {i : ℕ} → answerIn e (modelIn s) ≡ refused n u i → r ≡ 0 → ⊥
   -- taken: the bytes hold the defined model
   pub model : (m : Model) → modelIn s ≡ some m → r ≡ 0 → Holds (apply e m .model) s t
   -- refused: not one byte of the model is changed

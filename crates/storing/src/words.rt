@@ -8,7 +8,7 @@ use layout::component_words::component_from;
 use layout::component_words::data_from;
 use model::implicit_model::Model;
 ghost use mathlib.Core.Path.{_≡_};
-ghost use Rattle.model.specs.Edit.{addOperation, setParameter};
+ghost use Rattle.model.specs.Edit.{addOperation};
 ghost use Rattle.edit.specs.Meets.{Meets};
 ghost use Rattle.layout.specs.EditRows.{given};
 ghost use Rattle.storing.specs.Edits.{functionOf, componentEdit, operationOf, dataOf};

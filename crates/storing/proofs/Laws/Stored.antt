@@ -8,7 +8,7 @@ use native.Mathlib.Omega.{arith}
 use lib.Dec.{T, leb, eqb}
 use lib.ListN.{length}
 use borrow.Author.Tests.{eqb-true, eq-eqb}
-use Rattle.tag.specs.Tags.{empty}
+use Rattle.tag.specs.Tags.{Tag, empty}
 use Rattle.model.specs.declared.implicit_model.Model.{Model as Record}
 use Rattle.model.specs.Model.{Model, Same, valid}
 use Rattle.model.specs.Edit.{Edit, Answer, refused, Outcome, check, edit, apply}
@@ -28,6 +28,7 @@ use Rattle.model_bytes.proofs.Theorems.RoundTrip.{decodes-held, decoded-holds}
 use Rattle.report.specs.Report.{reported, ofAnswer}
 use Rattle.storing.specs.Called.{answerIn, Holds, Called}
 use Rattle.storing.specs.Steps.{Told, Put, Written, Stored}
+use Rattle.storing.proofs.Laws.Told.{answer-apart}
 
 -- ---- the bytes
 
@@ -121,6 +122,14 @@ module _ {e : Edit} {s t out after : List ℕ} {d : Decoded} {x : Edited} {r : �
   code : r ≡ ofAnswer (answerIn e (modelIn s)) .code
   code = w .told .code ∙ ap (λ (a : Answer). ofAnswer a .code) (answer-is (d .ok) refl)
 
+  -- a refusal's number is not 0
+  number-is : (b : Bool) {n i : ℕ} {u : Tag} → cond b (answerOf (x .answer)) (refused 7 empty 0) ≡ refused n u i → n ≡ 0 → ⊥
+  number-is true q z = answer-apart (x .answer) q z
+  number-is false {n} q z = let k : 7 ≡ n = cc in omega arith
+
+  apart : {n i : ℕ} {u : Tag} → answerIn e (modelIn s) ≡ refused n u i → r ≡ 0 → ⊥
+  apart q z = number-is (d .ok) (answer-is (d .ok) refl ∙ q) (sym (ap (λ (a : Answer). ofAnswer a .code) q) ∙ sym code ∙ z)
+
   module _ (m : Model) (g : modelIn s ≡ some m) (z : r ≡ 0) where
     seen : view (d .model) ≡ m
     seen = decodes-held g held .1
@@ -140,6 +149,7 @@ module _ {e : Edit} {s t out after : List ℕ} {d : Decoded} {x : Edited} {r : �
   called = record {
     code = code;
     report = w .told .report ∙ ap (λ (a : Answer). reported out (ofAnswer a)) (answer-is (d .ok) refl);
+    apart = λ q z. apart q z;
     model = λ m g z. holds-after (model-long s g) (passing m g z (valid m) refl) (same m g z) (w .written) z;
     kept = w .written .kept;
   }

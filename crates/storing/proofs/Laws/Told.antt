@@ -2,14 +2,16 @@
 use Prim.Native.Nat.{ℕ}
 use mathlib.Core.Path.{_≡_, refl, sym, ap, subst, _∙_}
 use mathlib.Core.List.{List}
+use native.Mathlib.Omega.{arith}
 use Rattle.tag.specs.declared.Tag.{Tag as Label}
 use Rattle.tag.specs.Tags.{Tag, empty}
 use Rattle.tag.specs.View.{bytesOf, Made}
 use Rattle.model.specs.declared.model_error.ModelError.{ModelError}
+use Rattle.model.specs.declared.model_error.ModelError.the-variants.{TagTooLong, IncorrectInputCount, InputIndexOutOfRange, ParameterDoesNotFit, ParameterTooNear, InvalidModel, DuplicateTag, MissingTag, MissingInput, CyclicDependency, ComponentsFull, ListsFull, NumberedTagTooLong}
 use Rattle.model.specs.declared.model_error.Ending.{Ending}
 use Rattle.model.specs.declared.model_error.Ending.the-variants.{Done, Made as MadeTag, Refused}
 use Rattle.model.specs.declared.model_error.Answer.{Answer as AnswerRecord}
-use Rattle.model.specs.Edit.{done}
+use Rattle.model.specs.Edit.{done, refused}
 use Rattle.model.specs.Answer.{numberOf, endingOf, answerOf}
 use Rattle.graph.specs.declared.evaluate.Evaluating.{Evaluating}
 use Rattle.graph.specs.declared.evaluate.Evaluating.the-variants.{Number, Refused as Handed}
@@ -58,3 +60,29 @@ module _ {out after : List ℕ} where
     replied-refused {e} {n} {k} q p w h =
         subst (λ (y : Evaluating). Replied (replyOf y (bytesOf (v .tag)) (v .index)) out after n) (sym q)
         (refusal e n k (v .index) (bytesOf (v .tag)) p w h)
+
+-- ---- no refusal has the number 0
+
+number-apart : (e : ModelError) → numberOf e ≡ 0 → ⊥
+number-apart TagTooLong h = omega arith
+number-apart IncorrectInputCount h = omega arith
+number-apart InputIndexOutOfRange h = omega arith
+number-apart ParameterDoesNotFit h = omega arith
+number-apart ParameterTooNear h = omega arith
+number-apart InvalidModel h = omega arith
+number-apart DuplicateTag h = omega arith
+number-apart MissingTag h = omega arith
+number-apart MissingInput h = omega arith
+number-apart CyclicDependency h = omega arith
+number-apart ComponentsFull h = omega arith
+number-apart ListsFull h = omega arith
+number-apart NumberedTagTooLong h = omega arith
+
+ending-apart : (y : Ending) (t u : Tag) (i j n : ℕ) → endingOf y t i ≡ refused n u j → n ≡ 0 → ⊥
+ending-apart Done t u i j n h z = let k : _≡_ {A = ℕ} 0 1 = cc in omega arith
+ending-apart MadeTag t u i j n h z = let k : _≡_ {A = ℕ} 0 1 = cc in omega arith
+ending-apart (Refused e) t u i j n h z = number-apart e (let k : numberOf e ≡ n = cc in k ∙ z)
+
+pub answer-apart : (a : AnswerRecord) {n j : ℕ} {u : Tag} → answerOf a ≡ refused n u j → n ≡ 0 → ⊥
+unfolding answerOf
+answer-apart a {n} {j} {u} h z = ending-apart (a .ending) (bytesOf (a .tag)) u (a .index) j n h z
