@@ -9,7 +9,7 @@ use Rattle.geometry.specs.declared.vec3f.Vec3.{Vec3}
 use Rattle.model.specs.declared.implicit_model.Model.{Model as Record}
 use Rattle.model.specs.Answer.{numberOf}
 use Rattle.model.specs.Model.{Model}
-use Rattle.model.specs.Form.{Compiling as Ending, ordered, stopped, Compiled, Reply, bits, handed, Evaluated}
+use Rattle.model.specs.Form.{Compiling as Ending, ordered, stopped, Compiled, Reply, handed, Evaluated}
 use Rattle.graph.specs.declared.computation_graph.Compiling.{Compiling}
 use Rattle.graph.specs.declared.computation_graph.Compiling.the-variants.{Ordered, Refused}
 use Rattle.graph.specs.declared.computation_graph.CompiledGraph.{CompiledGraph}

@@ -1,7 +1,7 @@
 -- What the calls answer that read a parameter, and those that name a kind and its parameters. Definitions only.
 use Prim.Native.Nat.{ℕ, _+_}
 use mathlib.Core.Path.{_≡_}
-use mathlib.Core.Bool.{true, false, cond}
+use mathlib.Core.Bool.{cond}
 use mathlib.Core.List.{List}
 use mathlib.Core.Option.{Option, none, some}
 use Rattle.tag.specs.Tags.{Tag, overlong, empty}

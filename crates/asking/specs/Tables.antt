@@ -1,11 +1,11 @@
 -- What the calls answer that read a model's default, components and input lists. Definitions only.
 use Prim.Native.Nat.{ℕ, _+_}
 use mathlib.Core.Path.{_≡_}
-use mathlib.Core.Bool.{true, false, cond}
+use mathlib.Core.Bool.{cond}
 use mathlib.Core.List.{List}
 use mathlib.Core.Option.{Option, none, some}
 use lib.ListN.{length, getElem?}
-use Rattle.tag.specs.Tags.{Tag, overlong, empty}
+use Rattle.tag.specs.Tags.{Tag, overlong}
 use Rattle.component.specs.declared.model_component.Component.{Component}
 use Rattle.model.specs.Model.{Place, Model, component, list}
 use Rattle.rows.specs.Rows.{componentIn, placesIn}

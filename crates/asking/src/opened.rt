@@ -4,7 +4,6 @@ use model_bytes::decode::Decoded;
 use model_bytes::decode::decode;
 use report::write_report;
 use tag::Tag;
-ghost use mathlib.Core.Path.{_≡_};
 ghost use Rattle.tag.specs.View.{bytesOf};
 ghost use Rattle.asking.specs.Said.{plain, Says, Opens};
 

@@ -3,7 +3,7 @@ use Prim.Native.Nat.{ℕ, zero, suc, _+_, _*_, _≤_, _<_}
 use mathlib.Core.Path.{_≡_, refl, sym, ap, ap₂, subst, _∙_}
 use mathlib.Core.Bool.{Bool, true, false, not}
 use mathlib.Core.List.{List, [], _∷_, map, List·Memᴰ, List·Memᴰ·head, List·Memᴰ·tail}
-use mathlib.Core.Option.{Option, none, some}
+use mathlib.Core.Option.{Option, some}
 use native.Mathlib.Omega.{arith}
 use lib.Dec.{T}
 use lib.Ieee.{Float}
@@ -15,7 +15,7 @@ use Rattle.model.specs.declared.implicit_model.Model.{Model as Record}
 use Rattle.model.specs.declared.model_error.ModelError.{ModelError}
 use Rattle.model.specs.Answer.{numberOf}
 use Rattle.model.specs.Model.{Model, valid}
-use Rattle.model.specs.Form.{Compiling as Ending, ordered, stopped, Compiled, refusal, invalid, Reply, handed, Evaluated, refused-by, bits}
+use Rattle.model.specs.Form.{Compiling as Ending, ordered, stopped, Compiled, refusal, invalid, handed, bits, Evaluated, refused-by}
 use Rattle.model.specs.View.{rows, componentOf, componentsOf, view, fits, passes}
 use Rattle.held.proofs.Laws.Rows.{no-entry, rows-length, rows-at}
 use Rattle.graph.specs.declared.computation_graph.Compiling.{Compiling}
@@ -30,7 +30,6 @@ use Rattle.layout.proofs.Kept.{kept-none}
 use Rattle.rows.specs.Rows.{tagIn, rowsIn}
 use Rattle.rows.specs.Written.{Wrote}
 use Rattle.rows.proofs.Laws.Local.{tag-local}
-use Rattle.rows.proofs.Laws.Tests.{apart}
 use Rattle.rows.proofs.Laws.Writing.{rows-wrote-none, rows-wrote-more}
 use Rattle.model_bytes.specs.declared.decode.Decoded.{Decoded}
 use Rattle.model_bytes.specs.ModelBytes.{modelIn}
@@ -38,7 +37,7 @@ use Rattle.model_bytes.specs.Calls.{Decodes}
 use Rattle.report.specs.Report.{Report, ofReply}
 use Rattle.direct.specs.Evaluate.{EvaluatesIn}
 use Rattle.asking.specs.Said.{heldIn, plain, Says, Opens}
-use Rattle.asking.specs.Form.{checked, Replies, Evaluates, Ends, ofEnding, tagRow, OrderIn, Compiles, replyCode, replyBits, endingCode, tagsOf}
+use Rattle.asking.specs.Form.{checked, Replies, Evaluates, Ends, tagRow, OrderIn, Compiles, replyCode, replyBits, endingCode, tagsOf}
 use Rattle.asking.proofs.Laws.Said.{says-as, unheld, held, judged}
 
 -- ---- dw_check

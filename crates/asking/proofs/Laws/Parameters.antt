@@ -13,24 +13,23 @@ use Rattle.tag.specs.Tags.{Tag, overlong, empty}
 use Rattle.tag.specs.View.{bytesOf, Labelled}
 use Rattle.geometry.specs.declared.vec3f.Vec3.{Vec3}
 use Rattle.component.specs.Value.{inputCount}
-use Rattle.component.specs.Parameter.{Name, readParameter}
-use Rattle.naming.specs.Names.{typeName, parameterAt, Described}
+use Rattle.component.specs.Parameter.{Name}
+use Rattle.component.specs.Names.{typeName, parameterAt, Described}
 use Rattle.component.specs.declared.parameter.Parameter.{Parameter}
-use Rattle.component.specs.declared.parameter.DataType.{DataType}
 use Rattle.component.specs.declared.parameter.Data.the-variants.{Value, Vec3 as Vector, Boolean}
 use Rattle.component.specs.declared.model_component.Reading.{Reading}
 use Rattle.component.specs.declared.model_component.Reading.the-variants.{Read, Nothing}
 use Rattle.component.specs.declared.model_component.Component.{Component}
 use Rattle.component.specs.declared.model_component.Component.the-variants.{Constant, Sphere, Torus, Multiply, Add, Subtract, Divide, Lerp, VariableLerp, Remap, BooleanUnion, BooleanIntersection, BooleanDifference, Offset, Thickness}
-use Rattle.model.specs.Model.{Model, component}
+use Rattle.model.specs.Model.{component}
 use Rattle.model.specs.View.{view}
 use Rattle.layout.specs.Numbers.{bitsOf}
 use Rattle.rows.specs.Rows.{threeIn}
 use Rattle.rows.specs.Written.{Writes}
 use Rattle.model_bytes.specs.declared.decode.Decoded.{Decoded}
 use Rattle.report.specs.Report.{Report}
-use Rattle.asking.specs.Said.{heldIn, plain, answered, Says, Opens}
-use Rattle.asking.specs.Parameters.{Asked, unread, read, readOf, readShort, readIn, parameterIn, ofAsked, AskedOf, ShowsParameter, kindOf, ofKind, takes, ofParameter}
+use Rattle.asking.specs.Said.{plain, answered, Says, Opens}
+use Rattle.asking.specs.Parameters.{Asked, unread, read, readOf, readShort, readIn, parameterIn, ShowsParameter, kindOf, ofKind, takes, ofParameter}
 use Rattle.asking.proofs.Laws.Said.{says-as}
 
 -- ---- shown

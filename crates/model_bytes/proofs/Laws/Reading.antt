@@ -11,7 +11,7 @@ use native.Mathlib.Omega.{arith}
 use lib.Dec.{eqb}
 use lib.ListN.{length, getD, take, drop, set, length-drop}
 use lib.Seq.{take-suc, take-suc-set, take-take, getD-drop}
-use borrow.Author.Tests.{le-leb, lt-leb, eq-eqb, ne-eqb}
+use borrow.Author.Tests.{le-leb, ne-eqb}
 use Rattle.tag.specs.declared.Tag.{Tag as Label}
 use Rattle.tag.specs.Tags.{Tag}
 use Rattle.tag.specs.View.{bytesOf, tagFits}

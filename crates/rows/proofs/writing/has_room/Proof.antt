@@ -1,7 +1,5 @@
 -- `has_room` meets its contract. Assumes nothing.
 use borrow.Author.Needs.{needs}
-use borrow.Author.Tests.{le-leb, lt-leb}
-use mathlib.Core.Path.{sym, ap, _∙_}
 use Rattle.rows.proofs.Laws.Tests.{room, no-room}
 use Rattle.rows.proofs.writing.has_room.Statement.{statement}
 use Rattle.rows.proofs.writing.has_room.Tie as tie
