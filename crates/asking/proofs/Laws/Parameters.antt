@@ -14,7 +14,7 @@ use Rattle.tag.specs.View.{bytesOf, Labelled}
 use Rattle.geometry.specs.declared.vec3f.Vec3.{Vec3}
 use Rattle.component.specs.Value.{inputCount}
 use Rattle.component.specs.Parameter.{Name}
-use Rattle.component.specs.Names.{typeName, parameterAt, Described}
+use Rattle.naming.specs.Names.{typeName, parameterAt, Described}
 use Rattle.component.specs.declared.parameter.Parameter.{Parameter}
 use Rattle.component.specs.declared.parameter.Data.the-variants.{Value, Vec3 as Vector, Boolean}
 use Rattle.component.specs.declared.model_component.Reading.{Reading}

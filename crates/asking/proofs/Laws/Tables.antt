@@ -12,12 +12,12 @@ use Rattle.tag.specs.Tags.{Tag, overlong}
 use Rattle.tag.specs.View.{bytesOf, Made}
 use Rattle.component.specs.declared.model_component.Component.{Component}
 use Rattle.model.specs.declared.implicit_model.Place.{Place as PlaceRecord}
-use Rattle.model.specs.declared.reading.EntryAnswer.{EntryAnswer}
-use Rattle.model.specs.declared.reading.ListAnswer.{ListAnswer}
+use Rattle.held.specs.declared.reading.EntryAnswer.{EntryAnswer}
+use Rattle.held.specs.declared.reading.ListAnswer.{ListAnswer}
 use Rattle.model.specs.Model.{Place, Model, component, list}
 use Rattle.model.specs.View.{placeOf, componentOf, listOf, view}
-use Rattle.model.specs.Reading.{entryRead, listRead, placesRead}
-use Rattle.model.specs.Search.{Live}
+use Rattle.held.specs.Reading.{entryRead, listRead, placesRead}
+use Rattle.held.specs.Search.{Live}
 use Rattle.rows.specs.Rows.{componentIn, placesIn}
 use Rattle.rows.specs.Written.{Writes}
 use Rattle.model_bytes.specs.declared.decode.Decoded.{Decoded}
