@@ -1,5 +1,5 @@
 // A line run on a model, and its answer.
-use crate::edits::edited;
+use edit_commands::edited;
 use float::bits::bits_of;
 use geometry::vec3f::Vec3;
 use graph::computation_graph::CompiledGraph;
