@@ -1,4 +1,5 @@
--- `Loops`: one more row. `Keys`: a tag's key is its own. `Rows`: what is found in the rows of a table. `Model`: the model that stands in the bytes. `Seven`: 7, from the checks. `Numbers`: one more number.
+-- `Loops`: one more row. `Checks`: what each check of the bytes shows. `Keys`: a tag's key is its own. `Rows`: what is found in the rows of a table. `Model`: the model that stands in the bytes.
+-- `Seven`: 7, and the wires, from the checks. `Numbers`: one more number. `Answer`: what evaluate_in answers.
 pub mod Loops
 pub mod Checks
 pub mod Numbers

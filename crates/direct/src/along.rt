@@ -6,7 +6,6 @@ use layout::component_words::ComponentRead;
 ghost use mathlib.Core.Path.{_≡_};
 ghost use mathlib.Core.Bool.{true};
 ghost use Prim.Native.Nat.{_≤_, _<_};
-ghost use lib.ListN.{length};
 ghost use Rattle.direct.specs.Along.{inputOf, Served, Ready, Value, Works};
 
 // The number of an input; NaN where there is no such place.

@@ -3,7 +3,6 @@ use layout::words::read_word;
 ghost use mathlib.Core.Path.{_≡_};
 ghost use mathlib.Core.Bool.{true};
 ghost use Prim.Native.Nat.{_+_, _≤_, _<_};
-ghost use lib.ListN.{length};
 ghost use Rattle.direct.specs.Names.{keyIn, componentAt, listAt, Keys, Sought, Apart};
 
 // The key of the 32 bytes at a place. No sum wraps.

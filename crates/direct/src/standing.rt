@@ -14,9 +14,8 @@ use tag::bytes::same_bytes;
 ghost use mathlib.Core.Path.{_≡_};
 ghost use mathlib.Core.Bool.{true, false};
 ghost use Prim.Native.Nat.{_+_, _≤_, _<_};
-ghost use lib.ListN.{length, getD};
+ghost use lib.ListN.{length};
 ghost use Rattle.layout.specs.Components.{componentRead};
-ghost use Rattle.direct.specs.Names.{Keys};
 ghost use Rattle.direct.specs.Standing.{componentRow, Named, PlaceNamed, Listing, Listed, Owners, Filled, DefaultNamed, Wire, Wires, Stands};
 
 // The component of the first n whose tag is t, by its key k; 65 where the key does not tell.
@@ -62,9 +61,9 @@ fn list_of(s: &[u8], keys: &[u64; 128], n: usize, k: u64, i: usize) -> usize
     if n <= j {
         return 128;
     }
-    let u = read_text(s, 5696 + 168 * j);
+    let l = read_text(s, 5696 + 168 * j);
     let t = read_text(s, 64 + 88 * i);
-    if same_bytes(u, t) {
+    if same_bytes(l, t) {
         return j;
     }
     129
@@ -168,10 +167,7 @@ fn wire(s: &[u8], keys: &[u64; 128], n: usize, o: usize, p: usize) -> usize
         return 64;
     }
     let v = place_named(s, keys, n, 5744 + 168 * o + 40 * p);
-    if v < 64 {
-        return v;
-    }
-    65
+    if v < 64 { v } else { 65 }
 }
 
 // The wires of the first n components, three each.

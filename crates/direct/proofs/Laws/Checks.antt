@@ -1,22 +1,22 @@
 -- What each check of the bytes shows. Assumes nothing.
-use Prim.Native.Nat.{ℕ, _+_, _*_, _-_, _/_, _%_, _≤_, _<_}
+use Prim.Native.Nat.{ℕ, _+_, _*_, _-_, _≤_, _<_}
 use native.Mathlib.Omega.{arith}
-use mathlib.Core.Path.{_≡_, refl, sym, ap, subst, _∙_}
-use mathlib.Core.Logic.{_⊎_, inl, inr, _≢_}
-use mathlib.Core.Bool.{Bool, true, false}
+use mathlib.Core.Path.{_≡_, sym, ap, subst, _∙_}
+use mathlib.Core.Logic.{inl, inr}
+use mathlib.Core.Bool.{Bool, true}
 use mathlib.Core.List.{List}
-use mathlib.Core.Option.{Option, none, some}
+use mathlib.Core.Option.{none, some}
 use lib.Dec.{eqb}
-use lib.ListN.{length, getD, set, take, drop, length-set}
+use lib.ListN.{getD, set, take, drop, length-set}
 use borrow.Author.Tests.{eqb-true}
-use Rattle.tag.specs.Tags.{Tag, is}
+use Rattle.tag.specs.Tags.{is}
 use Rattle.tag.proofs.Laws.Is.{is-true}
 use Rattle.component.specs.Value.{inputCount}
 use Rattle.component.specs.declared.model_component.Component.{Component}
 use Rattle.layout.specs.Words.{word, text}
 use Rattle.layout.specs.Components.{componentFrom}
 use Rattle.direct.specs.Names.{listAt, Sought}
-use Rattle.direct.specs.Standing.{componentRow, tagOf, Names, PlaceNames, Named, PlaceNamed, Listing, Listed, Owner, Owners, Filled, Wire}
+use Rattle.direct.specs.Standing.{componentRow, tagOf, Names, Named, PlaceNamed, Listing, Listed, Owner, Owners, Filled, Wire}
 use Rattle.direct.proofs.Laws.Loops.{all-more, each-more}
 
 -- ---- names

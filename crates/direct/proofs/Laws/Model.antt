@@ -6,7 +6,7 @@ use mathlib.Core.Bool.{Bool, true, false, _&&_, cond}
 use mathlib.Core.List.{List}
 use mathlib.Core.Option.{Option, none, some}
 use lib.Dec.{T, leb}
-use lib.ListN.{length, getD, take, drop}
+use lib.ListN.{length, getD}
 use borrow.Author.Tests.{leb-true}
 use Rattle.tag.specs.Tags.{Tag}
 use Rattle.component.specs.declared.model_component.Component.{Component}
@@ -22,7 +22,7 @@ use Rattle.model_bytes.specs.Holds.{Held}
 use Rattle.rows.proofs.Laws.Tests.{and-left}
 use Rattle.model_bytes.proofs.Laws.Decoding.{Head, head}
 use Rattle.direct.specs.Names.{componentAt, listAt}
-use Rattle.direct.specs.Standing.{fromSix, componentRow, tagOf}
+use Rattle.direct.specs.Standing.{fromSix, componentRow}
 use Rattle.direct.proofs.Laws.Keys.{cond-some, Tagged, tag-shows, place-short}
 use Rattle.direct.proofs.Laws.Rows.{Built, built, built-length, built-getD, built-all}
 

@@ -1,14 +1,12 @@
 -- One more number: a component's, from the numbers of its places. Assumes nothing.
 use Prim.Native.Nat.{ℕ, zero, suc, _+_, _*_, _≤_, _<_}
 use native.Mathlib.Omega.{arith}
-use native.Mathlib.Nat.{eq-or-lt-of-le}
 use native.Mathlib.Decide.{decLt, ℕ-discrete}
 use mathlib.Core.Path.{_≡_, refl, sym, ap, subst, _∙_}
-use mathlib.Core.Logic.{_⊎_, inl, inr}
-use mathlib.Core.Bool.{Bool, true, false, cond}
+use mathlib.Core.Logic.{inl, inr}
+use mathlib.Core.Bool.{Bool, cond}
 use mathlib.Core.List.{List, [], _∷_}
-use mathlib.Core.Option.{Option, none, some}
-use lib.Dec.{ltb}
+use mathlib.Core.Option.{none, some}
 use lib.Ieee.{Float, nan}
 use lib.ListN.{length, getD, set, replicate, getD-replicate}
 use lib.Seq.{getD-set-same, getD-set-other}
@@ -16,11 +14,10 @@ use borrow.Author.Tests.{lt-ltb}
 use Rattle.tag.specs.Tags.{Tag}
 use Rattle.geometry.specs.declared.vec3f.Vec3.{Vec3}
 use Rattle.component.specs.Value.{compute}
-use Rattle.component.specs.declared.model_component.Component.{Component}
 use Rattle.model.specs.Model.{Place, Model, inputs}
 use Rattle.model.specs.Form.{value, Number, worked, Numbers, nothing, another}
 use Rattle.model.proofs.Laws.Valid.{some-some, none-some}
-use Rattle.direct.specs.Standing.{componentRow, tagOf, Leads, Stands}
+use Rattle.direct.specs.Standing.{tagOf, Leads, Stands}
 use Rattle.direct.specs.Along.{inputOf, Served, Ready, Value}
 
 -- the numbers of a list's places, where f gives the one of each

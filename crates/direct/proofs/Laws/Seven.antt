@@ -1,31 +1,30 @@
 -- 7, and what the wires lead to, from the checks of the bytes. Assumes nothing.
-use Prim.Native.Nat.{ℕ, zero, suc, _+_, _*_, _-_, _/_, _%_, _≤_, _<_}
+use Prim.Native.Nat.{ℕ, zero, suc, _+_, _*_, _/_, _%_, _≤_, _<_}
 use native.Mathlib.Omega.{arith}
 use native.Mathlib.Decide.{decLt}
-use mathlib.Core.Path.{_≡_, refl, sym, ap, subst, _∙_}
+use mathlib.Core.Path.{_≡_, sym, ap, subst, _∙_}
 use mathlib.Core.Logic.{_⊎_, inl, inr, _≢_}
-use mathlib.Core.Bool.{Bool, true, false, _&&_, cond}
+use mathlib.Core.Bool.{_&&_}
 use mathlib.Core.List.{List, []}
 use mathlib.Core.Option.{Option, none, some, Option·getD}
 use lib.Dec.{T, leb, le→leb}
-use lib.ListN.{length, getD, take, drop}
+use lib.ListN.{length, getD}
 use borrow.Author.Tests.{eq-eqb}
-use Rattle.tag.specs.Tags.{Tag, overlong}
+use Rattle.tag.specs.Tags.{Tag}
 use Rattle.component.specs.Value.{inputCount}
 use Rattle.component.specs.declared.model_component.Component.{Component}
-use Rattle.model.specs.Table.{all, Table, find, distinct}
-use Rattle.model.specs.Model.{Place, Model, component, list, inputs, shortPlace, goodList, counted, named, valid}
+use Rattle.model.specs.Table.{all, find}
+use Rattle.model.specs.Model.{Place, Model, component, inputs, shortPlace, goodList, counted, named}
 use Rattle.model.proofs.Laws.Bool.{true→T, and-T}
-use Rattle.model.proofs.Laws.Valid.{some-some, none-some, found-held, Good, good-valid}
+use Rattle.model.proofs.Laws.Valid.{found-held, Good, good-valid}
 use Rattle.layout.specs.Words.{word, text}
-use Rattle.rows.specs.Rows.{placeIn}
 use Rattle.model_bytes.specs.ModelBytes.{entryRow, listRow, modelIn}
 use Rattle.model_bytes.specs.Holds.{Held}
-use Rattle.direct.specs.Names.{componentAt, listAt, keyIn, Keys, Apart}
+use Rattle.direct.specs.Names.{componentAt, listAt, Keys, Apart}
 use Rattle.direct.specs.Standing.{componentRow, tagOf, PlaceNames, Owner, Owners, Filled, DefaultNamed, Wire, Wires, Leads, Stands}
 use Rattle.direct.proofs.Laws.Keys.{Tagged, tags-apart, place-named, place-unnamed}
 use Rattle.direct.proofs.Laws.Rows.{Built, RowsApart, built-length, built-row, built-find, built-none, built-once, built-at}
-use Rattle.direct.proofs.Laws.Model.{Parts, parts, Entry, entry-shows, Row, list-shows}
+use Rattle.direct.proofs.Laws.Model.{Parts, parts, entry-shows, list-shows}
 
 -- what the checks found
 pub record Checked (s : List ℕ) (n k : ℕ) (components lists owners w : List ℕ) : Type 0 where

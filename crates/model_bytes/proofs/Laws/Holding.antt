@@ -1,16 +1,15 @@
 -- What stands in bytes, by its checks. Assumes nothing.
-use Prim.Native.Nat.{ℕ, zero, suc, _+_, _*_, _-_, _≤_, _<_}
+use Prim.Native.Nat.{ℕ, suc, _+_, _*_, _-_, _≤_}
 use native.Mathlib.Omega.{arith}
 use mathlib.Core.Path.{_≡_, refl, sym, ap, subst, _∙_}
-use mathlib.Core.Bool.{Bool, true, false, _&&_, cond}
+use mathlib.Core.Bool.{Bool, true, false, cond}
 use mathlib.Core.List.{List, [], _∷_, _++_}
 use mathlib.Core.Option.{Option, none, some, Option·map}
-use lib.Dec.{leb}
-use lib.ListN.{length, take, drop}
+use lib.ListN.{take, drop}
 use borrow.Author.Tests.{le-leb}
 use Rattle.component.specs.declared.model_component.Component.{Component}
 use Rattle.model.specs.Table.{Table}
-use Rattle.model.specs.Model.{Place, Model}
+use Rattle.model.specs.Model.{Place}
 use Rattle.layout.specs.Words.{word}
 use Rattle.rows.specs.Rows.{blank, textIn, tagIn, placeFrom, placeIn, componentIn, rowsIn, placeRow}
 use Rattle.model_bytes.specs.ModelBytes.{entryIn, listIn, headed, entryRow, listRow, joined, modelIn}
