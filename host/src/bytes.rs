@@ -9,6 +9,11 @@ use crate::report::{reported, Report};
 
 /// A tag of any bytes; those that the library hands out have 32 at most.
 pub type Tag = Vec<u8>;
+/// A tag as text, with a mark for what is not UTF-8. Every tag that came in as a `&str` comes out as it was.
+pub fn text(tag: Tag) -> String {
+    String::from_utf8(tag).unwrap_or_else(|e| String::from_utf8_lossy(e.as_bytes()).into_owned())
+}
+
 /// What a place of a list names; none where it is unassigned.
 pub type Place = Option<Tag>;
 /// The places of a list: 1 to 3.

@@ -17,6 +17,7 @@ pub mod parameter;
 pub mod record;
 pub mod refusal;
 pub mod report;
+pub mod screen;
 pub mod words;
 
 pub use bytes::ModelBytes;

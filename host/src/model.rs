@@ -1,13 +1,14 @@
 //! The model with the calls of the Rust original, by its names.
-use crate::bytes::{ModelBytes, Tag};
+use crate::bytes::{text, ModelBytes};
 use crate::component::{Component, Function, Operation};
 use crate::edit::{rows, Edit};
-use crate::ffi;
 use crate::geometry::Vec3;
 use crate::layout::{count, MODEL_SIZE};
-use crate::parameter::{Data, DataType, Parameter};
+use crate::parameter::Data;
+use crate::record::Record;
 use crate::refusal::Refusal;
-use crate::report::reported;
+use crate::screen;
+use std::fmt::{self, Display, Formatter};
 
 /// A sound model: components and input lists, found by tag, and a default.
 ///
@@ -24,14 +25,9 @@ use crate::report::reported;
 ///     Ok(())
 /// }
 /// ```
-#[derive(Clone, Default, PartialEq, Eq)]
+#[derive(Clone, Default)]
 pub struct Model {
     bytes: ModelBytes,
-}
-
-/// A tag for a screen. Every tag that came in by these calls is UTF-8; others show a mark for what is not.
-fn text(tag: Tag) -> String {
-    String::from_utf8(tag).unwrap_or_else(|e| String::from_utf8_lossy(e.as_bytes()).into_owned())
 }
 
 impl Model {
@@ -45,6 +41,11 @@ impl Model {
         let bytes = ModelBytes::from(*bytes);
         bytes.check()?;
         Ok(Model { bytes })
+    }
+
+    /// Whether two models hold the same components, lists and default, at any positions of their tables.
+    pub fn is_same(&self, other: &Model) -> Result<bool, Refusal> {
+        Ok(Record::of(&self.bytes)? == Record::of(&other.bytes)?)
     }
 
     /// The bytes to keep.
@@ -152,27 +153,10 @@ impl Model {
     }
 }
 
-/// What a screen shows of a kind of component.
-impl Component {
-    pub fn type_name(&self) -> Result<String, Refusal> {
-        let report = reported(|out| ffi::type_name(self.row().kind, out))?;
-        Ok(text(report.tag))
+/// Each component with its type, its parameters and its inputs, in ascending tag order.
+impl Display for Model {
+    fn fmt(&self, f: &mut Formatter) -> fmt::Result {
+        let shown = screen::components(&self.bytes).map_err(|_| fmt::Error)?;
+        f.write_str(&shown)
     }
-
-    /// How many inputs it takes.
-    pub fn input_count(&self) -> Result<usize, Refusal> {
-        let report = reported(|out| ffi::type_name(self.row().kind, out))?;
-        Ok((report.number as usize).saturating_sub(1))
-    }
-
-    pub fn parameters(&self) -> Result<Vec<Parameter>, Refusal> {
-        let kind = self.row().kind;
-        (0..).map(|index| parameter(kind, index)).map_while(Result::transpose).collect()
-    }
-}
-
-fn parameter(kind: u64, index: u64) -> Result<Option<Parameter>, Refusal> {
-    let report = reported(|out| ffi::parameter(kind, index, out))?;
-    let data_type = DataType::reported(report.number);
-    Ok(data_type.map(|data_type| Parameter { name: text(report.tag), data_type }))
 }

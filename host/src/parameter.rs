@@ -1,6 +1,7 @@
 //! Parameters: their names and types, and the data that is set and read.
 use crate::geometry::Vec3;
 use crate::layout::bits;
+use std::fmt::{self, Display, Formatter};
 
 #[derive(Debug, Clone, Copy, PartialEq)]
 pub enum Data {
@@ -44,6 +45,16 @@ impl Data {
         match DataType::reported(reported)? {
             DataType::Value => Some(Data::Value(x)),
             DataType::Vec3 => Some(Data::Vec3(Vec3::new(x, y, z))),
+        }
+    }
+}
+
+impl Display for Data {
+    fn fmt(&self, f: &mut Formatter) -> fmt::Result {
+        match self {
+            Data::Value(value) => write!(f, "{value}"),
+            Data::Vec3(v) => write!(f, "({}, {}, {})", v.x, v.y, v.z),
+            Data::Boolean(b) => write!(f, "{b}"),
         }
     }
 }

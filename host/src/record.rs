@@ -9,6 +9,7 @@ use crate::refusal::Refusal;
 use crate::words::{component_words, tag_or_none_word, tag_word, Fault, Words};
 
 /// What a record says, sound or not.
+#[derive(Debug, Clone, PartialEq, Eq)]
 pub struct Record {
     pub default: Place,
     pub components: Vec<(Tag, Row)>,

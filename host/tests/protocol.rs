@@ -1,4 +1,7 @@
 //! The program `console`: the recorded cases, and what the protocol says of a line.
+mod common;
+
+use common::Random;
 use dotterelwire::console::Console;
 use std::io::Write;
 use std::process::{Command, Stdio};
@@ -138,4 +141,43 @@ fn vectors_and_the_one_nan() {
         answer(&mut console, &format!("vec3 dot {infinite} {infinite} {one} {one} fff0000000000000 {one}")),
         nan
     );
+}
+
+/// Lines of the recorded script with bytes changed, words dropped and lines cut: each gets an answer.
+#[test]
+fn mangled_lines() {
+    let script = recorded("stdin");
+    let lines: Vec<&[u8]> = script.split(|b| *b == b'\n').filter(|line| line.len() < 2000).collect();
+    let random = &mut Random::new(5);
+    let mut console = Console::new();
+    let (mut errors, mut others) = (0, 0);
+    for _ in 0..3000 {
+        let line = lines[random.below(lines.len())];
+        let line = mangled(random, line);
+        match console.answer(&line) {
+            None => assert!(line.is_empty() || line[0] == b'#'),
+            Some(said) if said.starts_with("error ") => errors += 1,
+            Some(said) => {
+                assert!(said == "ok" || said.starts_with("ok ") || said.starts_with("refused "), "{said}");
+                others += 1;
+            }
+        }
+    }
+    assert!(errors > 500 && others > 500, "{errors} errors, {others} others");
+}
+
+fn mangled(random: &mut Random, line: &[u8]) -> Vec<u8> {
+    let mut line = line.to_vec();
+    if line.is_empty() {
+        return line;
+    }
+    let at = random.below(line.len());
+    match random.below(5) {
+        0 => line[at] = random.word() as u8,
+        1 => line[at] = *random.pick(b"0123456789abcdef .-"),
+        2 => line.truncate(at),
+        3 => drop(line.remove(at)),
+        _ => {}
+    }
+    line
 }

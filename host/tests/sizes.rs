@@ -78,15 +78,21 @@ fn models_of_another_length_are_7() {
         assert_eq!(ffi::add_constant(&mut bytes, b"a", 0, out), 7);
         assert_eq!(ffi::evaluate_after(&mut bytes, &[], b"a", 0, 0, 0, out), 7);
         assert_eq!(ffi::evaluate_at(&bytes, b"a", 0, 0, 0, out), 7);
-        assert_eq!(bytes, before);
+        assert!(bytes == before);
     }
 }
 
+/// A new model is its header; the rows, none of which counts, are left alone.
 #[test]
-fn a_new_model_overwrites_whatever_stands_there() {
-    let mut bytes = vec![0xaa; MODEL_SIZE];
+fn a_new_model_over_whatever_stands_there() {
+    let mut bytes = [0xaa; MODEL_SIZE];
     assert_eq!(ffi::new(&mut bytes, &mut []), 0);
-    assert_eq!(bytes, ModelBytes::new().as_bytes());
+    assert!(bytes[..64] == ModelBytes::new().as_bytes()[..64]);
+    assert!(bytes[64..].iter().all(|b| *b == 0xaa));
+    let model = ModelBytes::from(bytes);
+    assert_eq!(model.components(), Ok(vec![]));
+    assert_eq!(model.lists(), Ok(vec![]));
+    assert_eq!(model.default_output(), Ok(None));
 }
 
 /// The first 64 bytes of a report are written, taken or refused; a shorter one and what is behind are left alone.
