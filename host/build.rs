@@ -2,7 +2,7 @@
 use std::path::PathBuf;
 
 fn main() {
-    let here = PathBuf::from(env!("CARGO_MANIFEST_DIR"));
+    let here = PathBuf::from(std::env::var_os("CARGO_MANIFEST_DIR").unwrap_or_default());
     let folder = std::env::var_os("DOTTERELWIRE_LIB").map_or(here.join("target/lib"), PathBuf::from);
     let archive = folder.join("libdotterelwire.a");
     println!("cargo:rerun-if-env-changed=DOTTERELWIRE_LIB");
