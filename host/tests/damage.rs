@@ -2,11 +2,10 @@
 //! DOTTERELWIRE_DAMAGES says how many (100,000 where it is not set).
 mod common;
 
-use common::{full, Random};
+use common::{full, Change, Random};
 use dotterelwire::bytes::ModelBytes;
 use dotterelwire::console::Console;
 use dotterelwire::layout::{put_word, word, COMPONENT_ROW, FIRST_COMPONENT, FIRST_LIST, LIST_ROW, MODEL_SIZE};
-use dotterelwire::parameter::DataRow;
 use dotterelwire::record::Record;
 use dotterelwire::{Refusal, Vec3};
 
@@ -14,30 +13,7 @@ type Bytes = [u8; MODEL_SIZE];
 
 /// One call that may change a model, made at random.
 fn edit(random: &mut Random, model: &mut ModelBytes) -> Result<(), Refusal> {
-    let (tag, other, row) = (random.tag(), random.tag(), random.row());
-    let index = random.below(4) as u64;
-    let third = random.tag();
-    let inputs: [&[u8]; 3] = [&tag, &other, &third];
-    let given = random.chance(2).then_some(&inputs[..random.below(4)]);
-    match random.below(10) {
-        0 => model.add_constant(&tag, random.number()).map(drop),
-        1 => model.add_function(&tag, row).map(drop),
-        2 | 3 => model.add_operation(&other, row, given).map(drop),
-        4 => model.add_component(&tag, row).map(drop),
-        5 => model.add_input(&tag, &other, index),
-        6 => model.remove_input(&tag, index),
-        7 => model.remove_component(&tag),
-        8 => model.rename_component(&tag, &other).map(drop),
-        _ => set(random, model, &tag),
-    }
-}
-
-fn set(random: &mut Random, model: &mut ModelBytes, tag: &[u8]) -> Result<(), Refusal> {
-    let names: [&[u8]; 6] = [b"Centre", b"Radius", b"Thickness", b"Factor", b"FromMax", b"Distance"];
-    let kind = random.below(3) as u64;
-    let data = DataRow { kind, numbers: [random.word(), random.word(), random.word()] };
-    let name = names[random.below(names.len())];
-    model.set_parameter(tag, name, data)
+    (Change::new(random).run)(model)
 }
 
 /// Good models of several sizes; some of their free rows hold what was there before.

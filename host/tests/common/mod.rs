@@ -1,7 +1,8 @@
 //! What several tests use.
 #![allow(dead_code)]
-use dotterelwire::bytes::ModelBytes;
+use dotterelwire::bytes::{ModelBytes, Tag};
 use dotterelwire::component::{kind, Row};
+use dotterelwire::{Data, Edit, Refusal, Vec3};
 
 /// Numbers that look random and are the same in every run.
 pub struct Random(u64);
@@ -87,4 +88,63 @@ pub fn full() -> ModelBytes {
         model.add_operation(format!("held{i}").as_bytes(), offset(), None).unwrap();
     }
     model
+}
+
+fn slices(tags: &[Tag]) -> Vec<&[u8]> {
+    tags.iter().map(Vec::as_slice).collect()
+}
+
+type Run = Box<dyn Fn(&mut ModelBytes) -> Result<(), Refusal>>;
+
+/// An edit made at random: as a row of a list, as a call, and the tags of a rename.
+pub struct Change {
+    pub row: Edit,
+    pub run: Run,
+    pub rename: Option<(Tag, Tag)>,
+}
+
+impl Change {
+    pub fn new(random: &mut Random) -> Change {
+        let (tag, other, row, index) = (random.tag(), random.tag(), random.row(), random.below(4));
+        let rename = Some((tag.clone(), other.clone()));
+        let (row, run): (Edit, Run) = match random.below(10) {
+            0 => {
+                let value = random.number();
+                (Edit::add_constant(&tag, value), Box::new(move |m| m.add_constant(&tag, value).map(drop)))
+            }
+            1 => (Edit::add_function(&tag, row), Box::new(move |m| m.add_function(&tag, row).map(drop))),
+            2 | 3 => return Change::operation(random, tag, row),
+            4 => (Edit::add_component(&tag, row), Box::new(move |m| m.add_component(&tag, row).map(drop))),
+            5 => (Edit::add_input(&tag, &other, index), Box::new(move |m| m.add_input(&tag, &other, index as u64))),
+            6 => (Edit::remove_input(&tag, index), Box::new(move |m| m.remove_input(&tag, index as u64))),
+            7 => (Edit::remove_component(&tag), Box::new(move |m| m.remove_component(&tag))),
+            8 => {
+                let row = Edit::rename_component(&tag, &other);
+                let run = Box::new(move |m: &mut ModelBytes| m.rename_component(&tag, &other).map(drop));
+                return Change { row, run, rename };
+            }
+            _ => return Change::parameter(random, tag),
+        };
+        Change { row, run, rename: None }
+    }
+
+    fn operation(random: &mut Random, tag: Tag, row: Row) -> Change {
+        let tags: Vec<Tag> = (0..random.below(5)).map(|_| random.tag()).collect();
+        let given = !random.chance(3);
+        let made = Edit::add_operation(&tag, row, given.then_some(&slices(&tags)));
+        let run = move |m: &mut ModelBytes| m.add_operation(&tag, row, given.then_some(&slices(&tags))).map(drop);
+        Change { row: made, run: Box::new(run), rename: None }
+    }
+
+    fn parameter(random: &mut Random, tag: Tag) -> Change {
+        let names = ["Centre", "Radius", "Thickness", "Factor", "FromMax", "ToMin", "Distance"];
+        let (name, x) = (names[random.below(names.len())], random.number());
+        let data = match random.below(4) {
+            0 => Data::Vec3(Vec3::new(x, random.number(), random.number())),
+            1 => Data::Boolean(random.chance(2)),
+            _ => Data::Value(x),
+        };
+        let row = Edit::set_parameter(&tag, name, data);
+        Change { row, run: Box::new(move |m| m.set_parameter(&tag, name.as_bytes(), data.row())), rename: None }
+    }
 }
