@@ -76,7 +76,7 @@ pub length-bytes4 : (x : ℕ) → length (bytes4 x) ≡ 4
 unfolding bytes4
 length-bytes4 x = refl
 
-length-bytes8 : (x : ℕ) → length (bytes8 x) ≡ 8
+pub length-bytes8 : (x : ℕ) → length (bytes8 x) ≡ 8
 unfolding bytes4 bytes8
 length-bytes8 x = refl
 

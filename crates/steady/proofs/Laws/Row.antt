@@ -138,11 +138,11 @@ module _ (s : List ℕ) (at : ℕ) where
 
 -- ---- the inputs given
 
-given-none : {k : ℕ} (a b d x y z : Tag) → k ≡ 0 → inputsOf false 0 x y z ≡ given k a b d
+pub given-none : {k : ℕ} (a b d x y z : Tag) → k ≡ 0 → inputsOf false 0 x y z ≡ given k a b d
 unfolding inputsOf given
 given-none a b d x y z h = sym (ap (λ (k : ℕ). given k a b d) h)
 
-given-some : (k : ℕ) (a b d : Tag) → (k ≡ 0 → ⊥) → inputsOf true (k - 1) a b d ≡ given k a b d
+pub given-some : (k : ℕ) (a b d : Tag) → (k ≡ 0 → ⊥) → inputsOf true (k - 1) a b d ≡ given k a b d
 unfolding inputsOf handedOver given tagsGiven
 given-some zero a b d h = absurd (h refl)
 given-some (suc n) a b d h = ap (λ (k : ℕ). some (tagsGiven k a b d)) (let z : suc n - 1 ≡ n = omega arith in z)
