@@ -51,7 +51,7 @@ pub const CALLS: [Call; 22] = [
     ("dw_add_operation", |m| {
         ffi::add_operation(m, b"gone3", kind::OFFSET, 0, 0, 0, 0, 0, 2, b"62", b"", b"", &mut [0; 64])
     }),
-    ("dw_add_component", |m| ffi::add_component(m, b"0", kind::CONSTANT, 0, 0, 0, 0, 0, &mut [0; 64])),
+    ("dw_add_component", |m| ffi::add_component(m, b"gone5", kind::OFFSET, 0, 0, 0, 0, 0, &mut [0; 64])),
     ("dw_add_input", |m| ffi::add_input(m, b"1", b"62", 0, &mut [0; 64])),
     ("dw_remove_input", |m| ffi::remove_input(m, b"62", 0, &mut [0; 64])),
     ("dw_remove_component", |m| ffi::remove_component(m, b"62", &mut [0; 64])),
