@@ -8,7 +8,7 @@ use Rattle.model.specs.declared.implicit_model.Place.{Place as PlaceRecord}
 use Rattle.model.specs.View.{rows, every, placeOf}
 use Rattle.layout.specs.Words.{word}
 use Rattle.layout.specs.Writing.{Kept}
-use Rattle.model_bytes.specs.ModelBytes.{placeIn}
+use Rattle.rows.specs.Rows.{placeIn}
 
 -- what was read: a record r, which seen through g is what stands there and is within its sizes; or that nothing stands there
 pub record Read {A B : Type 0} (g : A → B) (sized : A → Bool) (there : Option B) (ok : Bool) (r : A) : Type 0 where
@@ -19,11 +19,6 @@ pub record Read {A B : Type 0} (g : A → B) (sized : A → Bool) (there : Optio
 pub record Filled {A B : Type 0} (g : A → B) (sized : A → Bool) (there : Option (List B)) (n : ℕ) (ok : Bool) (table : List A) : Type 0 where
   pub holds : cond ok (some (rows g n table)) none ≡ there
   pub sizes : ok ≡ true → every (rows sized n table) ≡ true
-
--- written into the n bytes at i: a is read there, by `reads`
-pub record Wrote {A : Type 0} (reads : List ℕ → A) (a : A) (i n : ℕ) (s t : List ℕ) : Type 0 where
-  pub kept : Kept s t i n
-  pub holds : reads t ≡ a
 
 -- the header, written into the first 64 bytes: n components, k lists and the default d
 pub record Header (n k : ℕ) (d : PlaceRecord) (s t : List ℕ) : Type 0 where

@@ -18,7 +18,8 @@ ghost use Rattle.tag.specs.View.{bytesOf, tagFits};
 ghost use Rattle.model.specs.View.{placeOf, placeFits, componentOf, entryFits, listOf, listFits};
 ghost use Rattle.model.specs.Reading.{New};
 ghost use Rattle.layout.specs.Components.{componentRead};
-ghost use Rattle.model_bytes.specs.ModelBytes.{blank, textIn, tagIn, placeIn, sixIn, sameWords, componentIn, rowsIn, entryIn, placeRow, listIn, headed, entryRow, listRow};
+ghost use Rattle.rows.specs.Rows.{blank, textIn, tagIn, placeIn, sixIn, sameWords, componentIn, rowsIn, placeRow};
+ghost use Rattle.model_bytes.specs.ModelBytes.{entryIn, listIn, headed, entryRow, listRow};
 ghost use Rattle.model_bytes.specs.Steps.{Read, Filled};
 ghost use Rattle.model_bytes.specs.Calls.{Decodes};
 

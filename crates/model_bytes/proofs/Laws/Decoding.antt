@@ -16,10 +16,11 @@ use Rattle.model.specs.Reading.{New}
 use Rattle.layout.specs.Words.{word}
 use Rattle.layout.specs.EditRows.{isSome}
 use Rattle.model_bytes.specs.declared.decode.Decoded.{Decoded}
-use Rattle.model_bytes.specs.ModelBytes.{placeIn, rowsIn, headed, entryRow, listRow, joined, modelIn}
+use Rattle.rows.specs.Rows.{placeIn, rowsIn}
+use Rattle.model_bytes.specs.ModelBytes.{headed, entryRow, listRow, joined, modelIn}
 use Rattle.model_bytes.specs.Steps.{Read, Filled}
 use Rattle.model_bytes.specs.Calls.{Decodes}
-use Rattle.model_bytes.proofs.Laws.Tests.{and-left, and-right, and-false}
+use Rattle.rows.proofs.Laws.Tests.{and-left, and-right, and-false}
 use Rattle.model_bytes.proofs.Laws.Reading.{found, filled}
 
 -- ---- the header

@@ -14,14 +14,17 @@ use Rattle.model.specs.View.{placeOf, componentsOf, listsOf, view, fits}
 use Rattle.layout.specs.Words.{word}
 use Rattle.layout.specs.Writing.{Kept}
 use Rattle.layout.proofs.Kept.{kept-then, agree-below}
-use Rattle.model_bytes.specs.ModelBytes.{placeIn, rowsIn, headed, entryRow, listRow, modelIn}
-use Rattle.model_bytes.specs.Steps.{Wrote, Header}
+use Rattle.rows.specs.Rows.{placeIn, rowsIn}
+use Rattle.model_bytes.specs.ModelBytes.{headed, entryRow, listRow, modelIn}
+use Rattle.rows.specs.Written.{Wrote}
+use Rattle.rows.proofs.Laws.Local.{place-local, rows-local}
+use Rattle.rows.proofs.Laws.Writing.{both-kept, word-stays}
+use Rattle.model_bytes.specs.Steps.{Header}
 use Rattle.model_bytes.specs.Calls.{Spares, Encodes}
-use Rattle.model_bytes.proofs.Laws.Tests.{apart, and-true, and-false}
+use Rattle.rows.proofs.Laws.Tests.{apart, and-true, and-false}
 use Rattle.model_bytes.proofs.Laws.Decoding.{headed-is, model-some}
 use Rattle.model_bytes.proofs.Laws.Sizes.{Sized, sized}
-use Rattle.model_bytes.proofs.Laws.Local.{place-local, entry-local, rows-local}
-use Rattle.model_bytes.proofs.Laws.Writing.{both-kept, word-stays}
+use Rattle.model_bytes.proofs.Laws.Local.{entry-local}
 
 pub header-wrote : {n k : ℕ} (d : PlaceRecord) {s t u v w : List ℕ} → Wrote (λ x. word x 0) 1 0 8 s t → Wrote (λ x. word x 8) n 8 8 t u → Wrote (λ x. word x 16) k 16 8 u v
     → Wrote (λ x. placeIn x 24) (some (placeOf d)) 24 40 v w → Header n k d s w

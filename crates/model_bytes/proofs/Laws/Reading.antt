@@ -24,15 +24,13 @@ use Rattle.layout.specs.Words.{word}
 use Rattle.layout.specs.Components.{componentFrom}
 use Rattle.layout.specs.declared.component_numbers.ComponentWords.{ComponentWords}
 use Rattle.layout.specs.Numbers.{wordsOf}
-use Rattle.model_bytes.specs.ModelBytes.{blank, textIn, tagIn, placeFrom, placeIn, sixIn, sameWords, spelled, componentOfWords, componentIn, both, append, rowsIn, entryIn, placeRow, placesIn, listIn}
+use Rattle.rows.specs.Rows.{blank, textIn, tagIn, placeFrom, placeIn, sixIn, sameWords, spelled, componentOfWords, componentIn, append, rowsIn, placeRow, placesIn}
+use Rattle.rows.proofs.Laws.Tests.{apart, and-true, and-false, every-append}
+use Rattle.rows.proofs.Laws.Reading.{blank-more, text-clean, rows-append, places-many, places-is}
+use Rattle.model_bytes.specs.ModelBytes.{both, entryIn, listIn}
 use Rattle.model_bytes.specs.Steps.{Read, Filled}
-use Rattle.model_bytes.proofs.Laws.Tests.{apart, and-true, and-false, every-append}
 
 -- ---- bytes
-
-pub blank-more : (s : List ℕ) (at i : ℕ) → blank s at i ≡ true → getD s (at + i) 0 ≡ 0 → blank s at (i + 1) ≡ true
-unfolding blank
-blank-more s at i p q = rw add-one (and-true p (eq-eqb (getD s (at + i) 0) 0 q))
 
 pub blank-fail : (s : List ℕ) (at i n : ℕ) → i < n → (getD s (at + i) 0 ≡ 0 → ⊥) → blank s at n ≡ false
 unfolding blank
@@ -89,26 +87,10 @@ module _ {A B : Type 0} {g : A → B} {sized : A → Bool} {there : Option B} {o
 -- ---- tags
 
 module _ (n : ℕ) (s : List ℕ) (at : ℕ) where
-  pub text-long : 32 < n → textIn n s at ≡ none
-  unfolding textIn
-  text-long h = ap (λ (b : Bool). cond (b && blank s (at + n) (32 - n)) (some (take n (drop at s))) none) (lt-leb n 32 h)
-
-  text-is : (b : Bool) → n ≤ 32 → blank s (at + n) (32 - n) ≡ b → textIn n s at ≡ cond b (some (take n (drop at s))) none
-  unfolding textIn
-  text-is b h e =
-      ap (λ (t : Bool). cond (t && blank s (at + n) (32 - n)) (some (take n (drop at s))) none) (le-leb n 32 h)
-      ∙ ap (λ (t : Bool). cond t (some (take n (drop at s))) none) e
-
-  pub text-dirty : n ≤ 32 → blank s (at + n) (32 - n) ≡ false → textIn n s at ≡ none
-  text-dirty h e = text-is false h e
-
-  pub text-clean : n ≤ 32 → blank s (at + n) (32 - n) ≡ true → textIn n s at ≡ some (take n (drop at s))
-  text-clean h e = text-is true h e
-
   pub text-read : {b : List ℕ} → n ≤ 32 → blank s (at + n) (32 - n) ≡ true → b ≡ take 32 (drop at s) → Read bytesOf tagFits (textIn n s at) true (record { bytes = b; len = n })
   unfolding bytesOf tagFits
   text-read {b} h e f = record {
-    holds = sym (text-clean h e ∙ ap some (sym (ap (take n) f ∙ take-take n 32 (drop at s) h)));
+    holds = sym (text-clean n s at h e ∙ ap some (sym (ap (take n) f ∙ take-take n 32 (drop at s) h)));
     sizes = λ t. le-leb n 32 h;
   }
 
@@ -165,10 +147,6 @@ module _ {A : Type 0} (row : ℕ → Option A) where
       go : i ≡ n ⊎ i < n → (i < n → rowsIn row n ≡ none) → append (rowsIn row n) (row n) ≡ none
       go (inl q) r = last (rowsIn row n) (ap row (sym q) ∙ e)
       go (inr l) r = ap (λ (o : Option (List A)). append o (row n)) (r l)
-
-  pub rows-append : (i : ℕ) {xs : List A} {x : A} → rowsIn row i ≡ some xs → row i ≡ some x → rowsIn row (i + 1) ≡ some (xs ++ (x ∷ []))
-  unfolding rowsIn
-  rows-append i {xs} p q = rw add-one (ap (λ (o : Option (List A)). append o (row i)) p ∙ ap (append (some xs)) q)
 
 -- the first i rows, read into a table
 pub record Sofar {A B : Type 0} (g : A → B) (sized : A → Bool) (row : ℕ → Option B) (i : ℕ) (table : List A) : Type 0 where
@@ -227,29 +205,25 @@ module _ (s : List ℕ) (at : ℕ) where
     unfolding listIn
     list-no-places e = both-none (tagIn s at) (ap (λ (k : ℕ). placesIn k s (at + 48)) (sym w) ∙ e)
 
-    places-is : {b : Bool} → n ≤ 3 → blank s (at + 48 + 40 * n) (40 * (3 - n)) ≡ b → placesIn n s (at + 48) ≡ cond b (rowsIn (placeRow s (at + 48)) n) none
-    unfolding placesIn
-    places-is h e =
-        ap (λ (t : Bool). cond (t && blank s (at + 48 + 40 * n) (40 * (3 - n))) (rowsIn (placeRow s (at + 48)) n) none) (le-leb n 3 h)
-        ∙ ap (λ (t : Bool). cond t (rowsIn (placeRow s (at + 48)) n) none) e
+    pub list-by : {t : Tag} {ps : List Place} → tagIn s at ≡ some t → placesIn n s (at + 48) ≡ some ps → listIn s at ≡ some (t, ps)
+    unfolding listIn
+    list-by {t} p q =
+        ap (λ o. both o (placesIn (word s (at + 40)) s (at + 48))) p
+        ∙ ap (both (some t)) (ap (λ (k : ℕ). placesIn k s (at + 48)) (sym w) ∙ q)
 
     pub list-many : 3 < n → listIn s at ≡ none
-    unfolding placesIn
-    list-many h = list-no-places (ap (λ (t : Bool). cond (t && blank s (at + 48 + 40 * n) (40 * (3 - n))) (rowsIn (placeRow s (at + 48)) n) none) (lt-leb n 3 h))
+    list-many h = list-no-places (places-many n s (at + 48) h)
 
     module _ (h : n ≤ 3) where
       pub list-dirty : blank s (at + 48 + 40 * n) (40 * (3 - n)) ≡ false → listIn s at ≡ none
-      list-dirty e = list-no-places (places-is h e)
+      list-dirty e = list-no-places (places-is n s (at + 48) h e)
 
       module _ (clean : blank s (at + 48 + 40 * n) (40 * (3 - n)) ≡ true) where
         pub list-unread : rowsIn (placeRow s (at + 48)) n ≡ none → listIn s at ≡ none
-        list-unread e = list-no-places (places-is h clean ∙ e)
+        list-unread e = list-no-places (places-is n s (at + 48) h clean ∙ e)
 
         pub list-is : {t : Tag} {ps : List Place} → tagIn s at ≡ some t → rowsIn (placeRow s (at + 48)) n ≡ some ps → listIn s at ≡ some (t, ps)
-        unfolding listIn
-        list-is {t} p q =
-            ap (λ o. both o (placesIn (word s (at + 40)) s (at + 48))) p
-            ∙ ap (both (some t)) (ap (λ (k : ℕ). placesIn k s (at + 48)) (sym w) ∙ places-is h clean ∙ q)
+        list-is p q = list-by p (places-is n s (at + 48) h clean ∙ q)
 
 pub list-sized : (l : InputList) → tagFits (l .tag) ≡ true → l .count ≤ 3 → every (rows placeFits (l .count) (l .places)) ≡ true → listFits l ≡ true
 unfolding listFits

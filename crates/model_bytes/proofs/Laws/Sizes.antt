@@ -8,7 +8,7 @@ use Rattle.tag.specs.View.{tagFits}
 use Rattle.model.specs.declared.implicit_model.InputList.{InputList}
 use Rattle.model.specs.declared.implicit_model.Model.{Model as Record}
 use Rattle.model.specs.View.{rows, every, placeFits, entryFits, listFits, fits}
-use Rattle.model_bytes.proofs.Laws.Tests.{and-left, and-right, and-false}
+use Rattle.rows.proofs.Laws.Tests.{and-left, and-right, and-false}
 
 and-one : (a : Bool) → (a && true) ≡ a
 and-one true = refl

@@ -1,177 +1,27 @@
--- What is written at a place, and rows that are written one after another. Assumes nothing.
-use Prim.Native.Nat.{ℕ, zero, suc, _+_, _*_, _-_, _≤_, _<_}
-use mathlib.Core.Path.{_≡_, refl, sym, ap, subst, _∙_}
-use mathlib.Core.Bool.{Bool, true, false, cond}
-use mathlib.Core.List.{List, [], _∷_, _++_}
-use mathlib.Core.Option.{Option, none, some, Option·map}
+-- Rows of the tables that are written one after another. Assumes nothing.
+use Prim.Native.Nat.{ℕ, zero, suc, _+_, _*_, _≤_, _<_, min}
+use mathlib.Core.Path.{_≡_, refl, sym, ap, _∙_}
+use mathlib.Core.Bool.{Bool, true}
+use mathlib.Core.List.{List, [], _∷_}
+use mathlib.Core.Option.{some}
 use native.Mathlib.Nat.{not-suc-le-zero, le-of-suc-le-suc}
-use native.Mathlib.Numerals.{add-one}
 use native.Mathlib.Omega.{arith}
-use lib.ListN.{length, getD, take, drop, set, length-set, length-drop}
-use lib.Seq.{take-suc, getD-drop, getD-set-same, getD-set-other, set-getD}
-use borrow.Author.Tests.{leb-true, eq-eqb}
-use Rattle.tag.specs.declared.Tag.{Tag as Label}
-use Rattle.tag.specs.View.{bytesOf, tagFits}
-use Rattle.component.specs.declared.model_component.Component.{Component}
-use Rattle.model.specs.declared.implicit_model.Place.{Place as PlaceRecord}
+use lib.ListN.{length, getD}
+use Rattle.tag.specs.View.{bytesOf}
 use Rattle.model.specs.declared.implicit_model.ComponentEntry.{ComponentEntry}
 use Rattle.model.specs.declared.implicit_model.InputList.{InputList}
-use Rattle.model.specs.View.{rows, every, placeOf, placeFits, componentOf, listOf}
-use Rattle.model.proofs.Laws.Rows.{no-place, no-entry, no-list, rows-length, rows-at, rows-more}
+use Rattle.model.specs.View.{rows, every, componentOf, listOf}
+use Rattle.model.proofs.Laws.Rows.{no-entry, no-list, rows-length, rows-at}
 use Rattle.layout.specs.Words.{word}
-use Rattle.layout.specs.Writing.{Kept, putWord}
-use Rattle.layout.specs.declared.component_numbers.ComponentWords.{ComponentWords}
-use Rattle.layout.specs.Numbers.{Worded}
-use Rattle.layout.proofs.Put.{word-kept, word-back}
-use Rattle.layout.proofs.Kept.{kept-none, kept-then, Agree, agree-below, word-same, bytes-same}
-use Rattle.model_bytes.specs.ModelBytes.{blank, textIn, tagIn, placeFrom, placeIn, sixIn, sameWords, spelled, componentOfWords, componentIn, rowsIn, entryIn, placeRow, listIn, entryRow, listRow}
-use Rattle.model_bytes.specs.Steps.{Wrote}
-use Rattle.model_bytes.proofs.Laws.Tests.{and-left, and-right}
-use Rattle.model_bytes.proofs.Laws.Reading.{blank-more, text-clean, rows-append, entry-is, list-is}
-use Rattle.model_bytes.proofs.Laws.Local.{blank-local, tag-local, place-local, rows-local, entry-local, list-local}
-
--- ---- a byte after others
-
-module _ {s t : List ℕ} {at i : ℕ} (x : ℕ) (k : Kept s t at i) (h : at + i < length s) where
-  pub kept-more : Kept s (set t (at + i) x) at (i + 1)
-  kept-more = record {
-    size = length-set t (at + i) x ∙ k .size;
-    below = λ j l. getD-set-other t (at + i) j x 0 (λ e. let z : ⊥ = omega arith in z) ∙ k .below j l;
-    above = λ j l. getD-set-other t (at + i) j x 0 (λ e. let z : ⊥ = omega arith in z) ∙ k .above j (omega arith);
-  }
-
-  set-here : getD (set t (at + i) x) (at + i) 0 ≡ x
-  set-here = getD-set-same t (at + i) x 0 (omega (arith, k .size))
-
-  set-agree : Agree t (set t (at + i) x) at i
-  set-agree = record { size = length-set t (at + i) x; same = λ j a b. getD-set-other t (at + i) j x 0 (λ e. let z : ⊥ = omega arith in z) }
-
-pub clear-none : (s : List ℕ) (at : ℕ) → Wrote (λ t. blank t at 0) true at 0 s s
-unfolding blank
-clear-none s at = record { kept = kept-none s at 0; holds = refl }
-
-pub clear-more : {s t : List ℕ} {at i : ℕ} → Wrote (λ u. blank u at i) true at i s t → at + i < length s → Wrote (λ u. blank u at (i + 1)) true at (i + 1) s (set t (at + i) 0)
-clear-more {s} {t} {at} {i} w h = record {
-  kept = kept-more 0 (w .kept) h;
-  holds = blank-more (set t (at + i) 0) at i (blank-local i (set-agree 0 (w .kept) h) ∙ w .holds) (set-here 0 (w .kept) h);
-}
-
-pub copy-none : (s b : List ℕ) (at : ℕ) → Wrote (λ t. take 0 (drop at t)) (take 0 b) at 0 s s
-copy-none s b at = record { kept = kept-none s at 0; holds = refl }
-
-pub copied-more : (b : List ℕ) {s t : List ℕ} {at i : ℕ} → Wrote (λ u. take i (drop at u)) (take i b) at i s t → at + i < length s → i < length b
-    → Wrote (λ u. take (i + 1) (drop at u)) (take (i + 1) b) at (i + 1) s (set t (at + i) (getD b i 0))
-copied-more b {s} {t} {at} {i} w h l =
-    let u = set t (at + i) (getD b i 0) in
-    let g : i < length (drop at u) = simp (length-drop, length-set) (omega (arith, w .kept .size)) in
-    record {
-      kept = kept-more (getD b i 0) (w .kept) h;
-      holds =
-          rw add-one
-          (take-suc (drop at u) i 0 g
-          ∙ ap (λ (x : ℕ). take i (drop at u) ++ (x ∷ [])) (getD-drop at u i 0 ∙ set-here (getD b i 0) (w .kept) h)
-          ∙ ap (λ (y : List ℕ). y ++ (getD b i 0 ∷ [])) (bytes-same (set-agree (getD b i 0) (w .kept) h) ∙ w .holds)
-          ∙ sym (take-suc b i 0 l));
-    }
-
--- ---- one after another
-
-module _ {A B : Type 0} {f : List ℕ → A} {g : List ℕ → B} {a : A} {b : B} {i n j m : ℕ} {s t u : List ℕ} (p : Wrote f a i n s t) (q : Wrote g b j m t u) where
-  -- within one range
-  pub both-kept : (at z : ℕ) → at ≤ i → i + n ≤ at + z → at ≤ j → j + m ≤ at + z → Kept s u at z
-  both-kept at z e f g h = kept-then at z (p .kept) (q .kept) e f g h
-
-pub word-wrote : (s : List ℕ) (at x : ℕ) → at + 8 ≤ length s → x < 0x1_0000_0000_0000_0000 → {t : List ℕ} → t ≡ putWord s at x → Wrote (λ u. word u at) x at 8 s t
-word-wrote s at x h b e = subst (Wrote (λ u. word u at) x at 8 s) (sym e) (record { kept = word-kept s at x h; holds = word-back s at x h b })
-
-pub word-stays : (at : ℕ) {s t : List ℕ} {j m x : ℕ} → Kept s t j m → at + 8 ≤ j → word s at ≡ x → word t at ≡ x
-word-stays at k h e = word-same (agree-below at 8 k h) ∙ e
-
--- ---- tags
-
-pub tag-short : (t : Label) → tagFits t ≡ true → t .len ≤ 32
-unfolding tagFits
-tag-short t e = leb-true (t .len) 32 e
-
-module _ (l : Label) {at : ℕ} {s t u : List ℕ} (short : l .len ≤ 32) where
-  pub text-wrote : Wrote (λ v. take (l .len) (drop at v)) (take (l .len) (l .bytes)) at (l .len) s t → Wrote (λ v. blank v (at + l .len) (32 - l .len)) true (at + l .len) (32 - l .len) t u
-      → Wrote (λ v. textIn (l .len) v at) (some (bytesOf l)) at 32 s u
-  unfolding bytesOf
-  text-wrote p q = record {
-    kept = both-kept p q at 32 (omega arith) (omega arith) (omega arith) (omega arith);
-    holds =
-        text-clean (l .len) u at short (q .holds)
-        ∙ ap some (bytes-same (agree-below at (l .len) (q .kept) (omega arith)) ∙ p .holds);
-  }
-
-  pub tag-wrote : Wrote (λ v. word v at) (l .len) at 8 s t → Wrote (λ v. textIn (l .len) v (at + 8)) (some (bytesOf l)) (at + 8) 32 t u
-      → Wrote (λ v. tagIn v at) (some (bytesOf l)) at 40 s u
-  unfolding tagIn
-  tag-wrote p q = record {
-    kept = both-kept p q at 40 (omega arith) (omega arith) (omega arith) (omega arith);
-    holds = ap (λ (n : ℕ). textIn n u (at + 8)) (word-stays at (q .kept) (omega arith) (p .holds)) ∙ q .holds;
-  }
-
--- ---- places
-
-pub place-tag : (p : PlaceRecord) → p .assigned ≡ true → placeFits p ≡ true → tagFits (p .tag) ≡ true
-unfolding placeFits
-place-tag p e f = sym (ap (λ (b : Bool). cond b (tagFits (p .tag)) true) e) ∙ f
-
-module _ (p : PlaceRecord) {at : ℕ} {s t u : List ℕ} where
-  pub place-wrote : p .assigned ≡ true → Wrote (λ v. word v at) (p .tag .len + 1) at 8 s t → Wrote (λ v. textIn (p .tag .len) v (at + 8)) (some (bytesOf (p .tag))) (at + 8) 32 t u
-      → Wrote (λ v. placeIn v at) (some (placeOf p)) at 40 s u
-  unfolding placeIn placeFrom placeOf
-  place-wrote e q r = record {
-    kept = both-kept q r at 40 (omega arith) (omega arith) (omega arith) (omega arith);
-    holds =
-        ap (λ (n : ℕ). placeFrom n u (at + 8)) (word-stays at (r .kept) (omega arith) (q .holds) ∙ add-one (p .tag .len))
-        ∙ ap (Option·map some) (r .holds)
-        ∙ ap (λ (b : Bool). some (cond b (some (bytesOf (p .tag))) none)) (sym e);
-  }
-
-  pub unassigned-wrote : p .assigned ≡ false → Wrote (λ v. word v at) 0 at 8 s t → Wrote (λ v. blank v (at + 8) 32) true (at + 8) 32 t u → Wrote (λ v. placeIn v at) (some (placeOf p)) at 40 s u
-  unfolding placeIn placeFrom placeOf
-  unassigned-wrote e q r = record {
-    kept = both-kept q r at 40 (omega arith) (omega arith) (omega arith) (omega arith);
-    holds =
-        ap (λ (n : ℕ). placeFrom n u (at + 8)) (word-stays at (r .kept) (omega arith) (q .holds))
-        ∙ ap (λ (b : Bool). cond b (some none) none) (r .holds)
-        ∙ ap (λ (b : Bool). some (cond b (some (bytesOf (p .tag))) none)) (sym e);
-  }
-
--- ---- components
-
-same-self : (w : ComponentWords) → sameWords w w ≡ true
-unfolding sameWords
-same-self w = rw (eq-eqb (w .kind) (w .kind) refl, eq-eqb (w .a) (w .a) refl, eq-eqb (w .b) (w .b) refl, eq-eqb (w .c) (w .c) refl, eq-eqb (w .d) (w .d) refl, eq-eqb (w .e) (w .e) refl)
-
-module _ (w : ComponentWords) {at : ℕ} {s t u v x y z : List ℕ} where
-  pub six-wrote : Wrote (λ v. word v at) (w .kind) at 8 s t → Wrote (λ v. word v (at + 8)) (w .a) (at + 8) 8 t u → Wrote (λ v. word v (at + 16)) (w .b) (at + 16) 8 u v
-      → Wrote (λ v. word v (at + 24)) (w .c) (at + 24) 8 v x → Wrote (λ v. word v (at + 32)) (w .d) (at + 32) 8 x y → Wrote (λ v. word v (at + 40)) (w .e) (at + 40) 8 y z
-      → Wrote (λ v. sixIn v at) w at 48 s z
-  six-wrote k a b c d e =
-      let ab = both-kept k a at 48 (omega arith) (omega arith) (omega arith) (omega arith) in
-      let bc = both-kept b c (at + 16) 16 (omega arith) (omega arith) (omega arith) (omega arith) in
-      let de = both-kept d e (at + 32) 16 (omega arith) (omega arith) (omega arith) (omega arith) in
-      let be = kept-then (at + 16) 32 bc de (omega arith) (omega arith) (omega arith) (omega arith) in
-      let ce = kept-then (at + 24) 24 (c .kept) de (omega arith) (omega arith) (omega arith) (omega arith) in
-      let ae = kept-then (at + 8) 40 (a .kept) be (omega arith) (omega arith) (omega arith) (omega arith) in
-      record {
-        kept = kept-then at 48 (k .kept) ae (omega arith) (omega arith) (omega arith) (omega arith);
-        holds = rw (word-stays at ae (omega arith) (k .holds), word-stays (at + 8) be (omega arith) (a .holds), word-stays (at + 16) ce (omega arith) (b .holds), word-stays (at + 24) de (omega arith) (c .holds), word-stays (at + 32) (e .kept) (omega arith) (d .holds), e .holds);
-      }
-
-pub component-wrote : (c : Component) {w : ComponentWords} {at : ℕ} {s t : List ℕ} → Worded c w → Wrote (λ v. sixIn v at) w at 48 s t → Wrote (λ v. componentIn v at) (some c) at 48 s t
-unfolding componentIn
-component-wrote c {w} {at} {s} {t} p q = record {
-  kept = q .kept;
-  holds =
-      ap componentOfWords (q .holds)
-      ∙ ap (spelled w) (p .back)
-      ∙ ap (λ (v : ComponentWords). cond (sameWords v w) (some c) none) (sym (p .words))
-      ∙ ap (λ (b : Bool). cond b (some c) none) (same-self w);
-}
+use Rattle.layout.proofs.Kept.{kept-then, agree-below}
+use Rattle.rows.specs.Rows.{tagIn, componentIn, rowsIn, placesIn, placesOf}
+use Rattle.rows.specs.Written.{Wrote}
+use Rattle.rows.proofs.Laws.Tests.{and-left, and-right}
+use Rattle.rows.proofs.Laws.Local.{tag-local}
+use Rattle.rows.proofs.Laws.Writing.{both-kept, word-stays, rows-wrote-none, rows-wrote-more}
+use Rattle.model_bytes.specs.ModelBytes.{entryIn, listIn, entryRow, listRow}
+use Rattle.model_bytes.proofs.Laws.Reading.{entry-is, list-by}
+use Rattle.model_bytes.proofs.Laws.Local.{entry-local, list-local}
 
 pub entry-wrote : (e : ComponentEntry) {at : ℕ} {s t u : List ℕ} → Wrote (λ v. tagIn v at) (some (bytesOf (e .tag))) at 40 s t → Wrote (λ v. componentIn v (at + 40)) (some (e .component)) (at + 40) 48 t u
     → Wrote (λ v. entryIn v at) (some (componentOf e)) at 88 s u
@@ -179,39 +29,6 @@ entry-wrote e {at} {s} {t} {u} p q = record {
   kept = both-kept p q at 88 (omega arith) (omega arith) (omega arith) (omega arith);
   holds = entry-is u at (tag-local (agree-below at 40 (q .kept) (omega arith)) ∙ p .holds) (q .holds);
 }
-
--- ---- rows
-
--- one row more
-pub rows-one : {A B : Type 0} (g : A → B) (table : List A) (i : ℕ) (d : A) → i < length table → rows g (i + 1) table ≡ rows g i table ++ (g (getD table i d) ∷ [])
-rows-one g table i d h = ap (rows g (i + 1)) (sym (set-getD table i d)) ∙ rows-more g table i (getD table i d) h
-
--- rows of one width, each of which depends on its own bytes alone
-module _ {A B : Type 0} (g : A → B) (row : List ℕ → ℕ → Option B) (base width : ℕ) (off : ℕ → ℕ)
-    (behind : (k i : ℕ) → k < i → off k + width ≤ off i) (only : (s t : List ℕ) (k : ℕ) → Agree s t (off k) width → row t k ≡ row s k) where
-  pub rows-wrote-none : (s : List ℕ) (table : List A) → Wrote (λ u. rowsIn (row u) 0) (some (rows g 0 table)) base 0 s s
-  unfolding rowsIn rows
-  rows-wrote-none s table = record { kept = kept-none s base 0; holds = refl }
-
-  pub rows-wrote-more : {s t u : List ℕ} {i z : ℕ} (y : ℕ) (table : List A) (d : A) → i < length table → base + z ≡ off i → base + y ≡ off i + width
-      → Wrote (λ v. rowsIn (row v) i) (some (rows g i table)) base z s t → Wrote (λ v. row v i) (some (g (getD table i d))) (off i) width t u
-      → Wrote (λ v. rowsIn (row v) (i + 1)) (some (rows g (i + 1) table)) base y s u
-  rows-wrote-more {s} {t} {u} {i} {z} y table d h e f p q = record {
-    kept = both-kept p q base y (omega arith) (omega arith) (omega arith) (omega arith);
-    holds =
-        rows-append (row u) i (rows-local (row t) (row u) i (λ k l. only t u k (agree-below (off k) width (q .kept) (behind k i l))) ∙ p .holds) (q .holds)
-        ∙ ap some (sym (rows-one g table i d h));
-  }
-
-module _ (at : ℕ) where
-  pub places-none : (s : List ℕ) (ps : List PlaceRecord) → Wrote (λ v. rowsIn (placeRow v at) 0) (some (rows placeOf 0 ps)) at (40 * 0) s s
-  places-none s ps = rows-wrote-none placeOf (λ v k. placeRow v at k) at 40 (λ k. at + 40 * k) (λ k i h. omega arith) (λ s t k a. place-local a) s ps
-
-  pub places-more : (ps : List PlaceRecord) {s t u : List ℕ} {i : ℕ} → i < length ps
-      → Wrote (λ v. rowsIn (placeRow v at) i) (some (rows placeOf i ps)) at (40 * i) s t → Wrote (λ v. placeIn v (at + 40 * i)) (some (placeOf (getD ps i no-place))) (at + 40 * i) 40 t u
-      → Wrote (λ v. rowsIn (placeRow v at) (i + 1)) (some (rows placeOf (i + 1) ps)) at (40 * (i + 1)) s u
-  places-more ps h p q =
-      rows-wrote-more placeOf (λ v k. placeRow v at k) at 40 (λ k. at + 40 * k) (λ k i h. omega arith) (λ s t k a. place-local a) _ ps no-place h refl (omega arith) p q
 
 pub entries-none : (s : List ℕ) (es : List ComponentEntry) → Wrote (λ v. rowsIn (entryRow v) 0) (some (rows componentOf 0 es)) 64 (88 * 0) s s
 entries-none s es = rows-wrote-none componentOf entryRow 64 88 (λ k. 64 + 88 * k) (λ k i h. omega arith) (λ s t k a. entry-local a) s es
@@ -244,18 +61,16 @@ row-fits f table n i d h l e =
 
 -- ---- lists
 
-module _ (l : InputList) {at : ℕ} {s t u v w : List ℕ} (few : l .count ≤ 3) where
+module _ (l : InputList) {at : ℕ} {s t u v : List ℕ} (few : l .count ≤ 3) where
   pub list-wrote : Wrote (λ x. tagIn x at) (some (bytesOf (l .tag))) at 40 s t → Wrote (λ x. word x (at + 40)) (l .count) (at + 40) 8 t u
-      → Wrote (λ x. rowsIn (placeRow x (at + 48)) (l .count)) (some (rows placeOf (l .count) (l .places))) (at + 48) (40 * l .count) u v
-      → Wrote (λ x. blank x (at + 48 + 40 * l .count) (40 * (3 - l .count))) true (at + 48 + 40 * l .count) (40 * (3 - l .count)) v w
-      → Wrote (λ x. listIn x at) (some (listOf l)) at 168 s w
-  list-wrote p q r c =
-      let rc = both-kept r c (at + 48) 120 (omega arith) (omega arith) (omega arith) (omega arith) in
-      let qc = kept-then (at + 40) 128 (q .kept) rc (omega arith) (omega arith) (omega arith) (omega arith) in
+      → Wrote (λ x. placesIn (min (l .count) 3) x (at + 48)) (some (placesOf (l .count) l)) (at + 48) 120 u v
+      → Wrote (λ x. listIn x at) (some (listOf l)) at 168 s v
+  list-wrote p q r =
+      let qr = both-kept q r (at + 40) 128 (omega arith) (omega arith) (omega arith) (omega arith) in
       record {
-        kept = kept-then at 168 (p .kept) qc (omega arith) (omega arith) (omega arith) (omega arith);
+        kept = kept-then at 168 (p .kept) qr (omega arith) (omega arith) (omega arith) (omega arith);
         holds =
-            list-is w at (sym (word-stays (at + 40) rc (omega arith) (q .holds))) few (c .holds)
-            (tag-local (agree-below at 40 qc (omega arith)) ∙ p .holds)
-            (rows-local (placeRow v (at + 48)) (placeRow w (at + 48)) (l .count) (λ k h. place-local (agree-below (at + 48 + 40 * k) 40 (c .kept) (omega arith))) ∙ r .holds);
+            list-by v at (sym (word-stays (at + 40) (r .kept) (omega arith) (q .holds)))
+            (tag-local (agree-below at 40 qr (omega arith)) ∙ p .holds)
+            (ap (λ (k : ℕ). placesIn k v (at + 48)) (let z : l .count ≡ min (l .count) 3 = omega arith in z) ∙ r .holds);
       }

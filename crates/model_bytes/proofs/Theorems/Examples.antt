@@ -5,7 +5,8 @@ use mathlib.Core.Option.{some}
 use lib.ListN.{replicate}
 use Rattle.model.specs.Model.{new}
 use Rattle.layout.specs.Words.{word}
-use Rattle.model_bytes.specs.ModelBytes.{blank, placeFrom, placeIn, rowsIn, headed, modelIn}
+use Rattle.rows.specs.Rows.{blank, placeFrom, placeIn, rowsIn}
+use Rattle.model_bytes.specs.ModelBytes.{headed, modelIn}
 
 pub new-bytes : modelIn (1 ∷ replicate 27199 0) ≡ some new
 unfolding modelIn headed rowsIn placeIn placeFrom blank word new

@@ -13,7 +13,7 @@ use Rattle.layout.specs.EditRows.{isSome}
 use Rattle.model_bytes.specs.declared.decode.Decoded.{Decoded}
 use Rattle.model_bytes.specs.ModelBytes.{modelIn}
 use Rattle.model_bytes.specs.Calls.{Decodes, Encodes}
-use Rattle.model_bytes.proofs.Laws.Tests.{apart, and-true}
+use Rattle.rows.proofs.Laws.Tests.{apart, and-true}
 
 -- decoding where the bytes hold a model, and what they hold where it succeeds
 pub decodes-held : {m : Model} {s : List ℕ} {d : Decoded} → modelIn s ≡ some m → Decodes s d → (d .ok ≡ true) × (view (d .model) ≡ m)

@@ -4,7 +4,7 @@ use mathlib.Core.Path.{_≡_, sym, ap, _∙_}
 use mathlib.Core.Bool.{true}
 use native.Mathlib.Omega.{arith}
 use borrow.Author.Needs.{needs}
-use Rattle.model_bytes.specs.ModelBytes.{blank}
+use Rattle.rows.specs.Rows.{blank}
 use Rattle.model_bytes.proofs.Laws.Reading.{blank-next, blank-stop}
 use Rattle.model_bytes.proofs.decode.is_blank.Statement.{statement}
 use Rattle.model_bytes.proofs.decode.is_blank.Tie as tie

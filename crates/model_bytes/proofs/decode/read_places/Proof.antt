@@ -6,7 +6,7 @@ use borrow.Author.Needs.{needs}
 use borrow.Author.Tests.{not-true, not-false}
 use lib.ListN.{length, length-set}
 use Rattle.model.specs.View.{placeOf, placeFits}
-use Rattle.model_bytes.specs.ModelBytes.{placeRow}
+use Rattle.rows.specs.Rows.{placeRow}
 use Rattle.model_bytes.proofs.Laws.Reading.{Sofar, sofar-none, sofar-more, sofar-stop, sofar-all}
 use Rattle.model_bytes.proofs.decode.read_places.Statement.{statement}
 use Rattle.model_bytes.proofs.decode.read_places.Tie as tie

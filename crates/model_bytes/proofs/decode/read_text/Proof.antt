@@ -4,7 +4,8 @@ use mathlib.Core.Path.{_∙_}
 use native.Mathlib.Omega.{arith}
 use borrow.Author.Needs.{needs}
 use borrow.Author.Tests.{not-true, not-false}
-use Rattle.model_bytes.proofs.Laws.Reading.{blank-as, read-none, text-long, text-dirty, text-read}
+use Rattle.rows.proofs.Laws.Reading.{text-long, text-dirty}
+use Rattle.model_bytes.proofs.Laws.Reading.{blank-as, read-none, text-read}
 use Rattle.model_bytes.proofs.decode.read_text.Statement.{statement}
 use Rattle.model_bytes.proofs.decode.read_text.Tie as tie
 

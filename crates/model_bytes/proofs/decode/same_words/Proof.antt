@@ -1,6 +1,6 @@
 -- `same_words` meets its contract. Assumes nothing.
 use borrow.Author.Tests.{eq-eqb, ne-eqb}
-use Rattle.model_bytes.specs.ModelBytes.{sameWords}
+use Rattle.rows.specs.Rows.{sameWords}
 use Rattle.model_bytes.proofs.decode.same_words.Statement.{statement}
 use Rattle.model_bytes.proofs.decode.same_words.Tie as tie
 

@@ -6,8 +6,9 @@ use native.Mathlib.Omega.{arith}
 use lib.ListN.{length}
 use Rattle.model.specs.View.{rows, componentOf, entryFits}
 use Rattle.model.proofs.Laws.Rows.{no-entry}
-use Rattle.model_bytes.specs.ModelBytes.{rowsIn, entryRow}
-use Rattle.model_bytes.specs.Steps.{Wrote}
+use Rattle.rows.specs.Rows.{rowsIn}
+use Rattle.model_bytes.specs.ModelBytes.{entryRow}
+use Rattle.rows.specs.Written.{Wrote}
 use Rattle.model_bytes.proofs.Laws.Writing.{entries-none, entries-more, row-fits}
 use Rattle.model_bytes.proofs.encode.write_components.Statement.{statement}
 use Rattle.model_bytes.proofs.encode.write_components.Tie as tie

@@ -6,8 +6,9 @@ use native.Mathlib.Omega.{arith}
 use lib.ListN.{length}
 use Rattle.model.specs.View.{rows, listOf, listFits}
 use Rattle.model.proofs.Laws.Rows.{no-list}
-use Rattle.model_bytes.specs.ModelBytes.{rowsIn, listRow}
-use Rattle.model_bytes.specs.Steps.{Wrote}
+use Rattle.rows.specs.Rows.{rowsIn}
+use Rattle.model_bytes.specs.ModelBytes.{listRow}
+use Rattle.rows.specs.Written.{Wrote}
 use Rattle.model_bytes.proofs.Laws.Writing.{lists-none, lists-more, row-fits}
 use Rattle.model_bytes.proofs.encode.write_lists.Statement.{statement}
 use Rattle.model_bytes.proofs.encode.write_lists.Tie as tie
