@@ -1,0 +1,4 @@
+pub mod Said
+pub mod Form
+pub mod Tables
+pub mod Parameters
