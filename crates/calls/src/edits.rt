@@ -1,17 +1,17 @@
 // The nine edits on a model in bytes. Each decodes, edits by value and stores: bytes that hold no model decode as a new one, and `store` answers 7.
-use crate::store::store;
-use crate::words::add_component_of;
-use crate::words::add_operation_with;
-use crate::words::data_of;
-use crate::words::function_of;
-use crate::words::operation_of;
 use float::bits::float_of;
 use model_bytes::decode::decode;
+use storing::store::store;
+use storing::words::add_component_of;
+use storing::words::add_operation_with;
+use storing::words::data_of;
+use storing::words::function_of;
+use storing::words::operation_of;
 ghost use Rattle.model.specs.Edit.{addOperation, addConstant, addFunction, addInput, removeInput, removeComponent, renameComponent, setParameter};
 ghost use Rattle.layout.specs.Components.{number};
 ghost use Rattle.layout.specs.EditRows.{given as inputsGiven};
-ghost use Rattle.calls.specs.Edits.{functionOf, componentEdit, operationOf, dataOf};
-ghost use Rattle.calls.specs.Called.{Called};
+ghost use Rattle.storing.specs.Edits.{functionOf, componentEdit, operationOf, dataOf};
+ghost use Rattle.storing.specs.Called.{Called};
 
 #[no_mangle]
 pub extern "C" fn dw_add_constant(model: &mut [u8], tag: &[u8], value: u64, out: &mut [u8]) -> u32

@@ -1,20 +1,14 @@
 // A new model in bytes, and a list of edits with the form asked after it.
-use crate::store::put_model;
-use crate::store::tell_7;
-use crate::store::tell_done;
-use crate::store::wide;
 use float::bits::float_of;
-use graph::evaluate::Evaluating;
-use graph::evaluate::Evaluation;
 use model_bytes::decode::decode;
-use report::number_of;
-use report::write_report;
 use steady::evaluate_after;
-ghost use Rattle.graph.specs.Evaluate.{replyOf, pointOf};
+use storing::store::put_model;
+use storing::store::tell_7;
+use storing::store::tell_done;
+use storing::store::tell_reply;
+ghost use Rattle.graph.specs.Evaluate.{pointOf};
 ghost use Rattle.layout.specs.Components.{number};
 ghost use Rattle.layout.specs.EditRows.{editsOf};
-ghost use Rattle.tag.specs.View.{bytesOf};
-ghost use Rattle.calls.specs.Steps.{Replied};
 ghost use Rattle.calls.specs.Lists.{Begun, AskedAfter};
 
 // Writes a new model; a slice of another length is 7 and is left alone.
@@ -28,26 +22,6 @@ pub extern "C" fn dw_new(model: &mut [u8], out: &mut [u8]) -> u32
     let m = model::reading::new();
     put_model(m, 0, model);
     tell_done(out)
-}
-
-// What an asking answered: a number has no tag and no index to report.
-fn tell_reply(e: Evaluation, out: &mut [u8]) -> u32
-    ensures { λ r. ⌜ Replied (replyOf (e .answer) (bytesOf (e .tag)) (e .index)) (now (out .entry)) (now (out .exit)) r ⌝ }
-{
-    let answer = e.answer;
-    match answer {
-        Evaluating::Number(bits) => {
-            let none = tag::empty_tag();
-            write_report(out, 0, 0, none, bits);
-            0
-        }
-        Evaluating::Refused(why) => {
-            let code = number_of(why);
-            let t = e.tag;
-            write_report(out, wide(code), e.index as u64, t, 0);
-            code
-        }
-    }
 }
 
 // The list run on a copy, and the form asked after it; the model after the list is stored only where the asking was answered.

@@ -25,10 +25,10 @@ use Rattle.report.specs.Report.{ofReply}
 use Rattle.steady.specs.declared.AfterList.{AfterList}
 use Rattle.steady.specs.Lists.{after, newest, Sparing}
 use Rattle.steady.specs.Steadied.{Refused, Steadied, Promised, After}
-use Rattle.calls.specs.Called.{Holds}
+use Rattle.storing.specs.Called.{Holds}
 use Rattle.calls.specs.Lists.{Fresh, Left, Begun, Answered, AskedAfter}
-use Rattle.calls.specs.Steps.{Told, Replied, Written}
-use Rattle.calls.proofs.Laws.Stored.{model-long, no-model, passes-is, holds-after}
+use Rattle.storing.specs.Steps.{Told, Replied, Written}
+use Rattle.storing.proofs.Laws.Stored.{model-long, no-model, passes-is, holds-after}
 
 -- ---- a new model
 

@@ -4,8 +4,8 @@ use mathlib.Core.Path.{ap}
 use Rattle.component.specs.declared.model_component.Component.{Component}
 use Rattle.model.specs.Edit.{addOperation}
 use Rattle.layout.specs.EditRows.{given}
-use Rattle.calls.proofs.Laws.Stored.{called}
-use Rattle.calls.proofs.Laws.Words.{meets-as}
+use Rattle.storing.proofs.Laws.Stored.{called}
+use Rattle.storing.proofs.Laws.Words.{meets-as}
 use Rattle.calls.proofs.edits.dw_add_operation.Statement.{statement}
 use Rattle.calls.proofs.edits.dw_add_operation.Tie as tie
 

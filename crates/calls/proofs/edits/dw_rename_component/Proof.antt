@@ -1,6 +1,6 @@
 -- `dw_rename_component` meets its contract. Assumes nothing.
 use borrow.Author.Needs.{needs}
-use Rattle.calls.proofs.Laws.Stored.{called}
+use Rattle.storing.proofs.Laws.Stored.{called}
 use Rattle.calls.proofs.edits.dw_rename_component.Statement.{statement}
 use Rattle.calls.proofs.edits.dw_rename_component.Tie as tie
 

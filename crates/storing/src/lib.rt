@@ -1,0 +1,3 @@
+// What the calls that change a model share: edits made of words, and how a call ends.
+pub mod store;
+pub mod words;
