@@ -42,12 +42,7 @@ fn main() -> Result<(), Box<dyn Error>> {
     let mut swapped = headwall.clone();
     form::swap_the_places(&mut swapped)?;
     let order = headwall.compile(form::HEADWALL)?;
-    println!(
-        "A culvert headwall, in metres: {} components, worked from \"{}\" to \"{}\".",
-        order.len(),
-        order[0],
-        form::HEADWALL
-    );
+    println!("A culvert headwall, in metres, of {} components.", order.len());
     let shown = [
         Shown::of("as drawn: the wall less the pipe", headwall)?,
         Shown::of("swapped: the pipe less the wall", swapped)?,
