@@ -2,8 +2,8 @@
 use crate::bytes::{ModelBytes, Place, Places, Tag};
 use crate::component::Row;
 use crate::layout::{
-    count, put_place, put_tag, put_word, COMPONENTS, COMPONENT_ROW, DEFAULT, FIRST_COMPONENT, FIRST_LIST, LISTS,
-    LIST_ROW, MODEL_SIZE, PLACES, TAG_ROW,
+    count, place, put_place, put_tag, put_word, tag, word, COMPONENTS, COMPONENT_ROW, DEFAULT, FIRST_COMPONENT,
+    FIRST_LIST, LISTS, LIST_ROW, MODEL_SIZE, PLACES, TAG_ROW,
 };
 use crate::refusal::Refusal;
 use crate::words::{component_words, tag_or_none_word, tag_word, Fault, Words};
@@ -17,12 +17,16 @@ pub struct Record {
 }
 
 impl Record {
-    /// What a model holds, in ascending tag order. Bytes that are no sound model are refused.
+    /// What a model holds, in ascending tag order. The library judges the bytes, and refuses those that are no sound model;
+    /// the rows are then read as docs/LAYOUT.md has them, since a call for each row would decode the model anew.
     pub fn of(model: &ModelBytes) -> Result<Record, Refusal> {
-        let (mut components, mut lists) = (model.components()?, model.lists()?);
+        model.check()?;
+        let bytes = model.as_bytes();
+        let mut components: Vec<_> = table(bytes, 8, FIRST_COMPONENT, COMPONENT_ROW).map(component).collect();
+        let mut lists: Vec<_> = table(bytes, 16, FIRST_LIST, LIST_ROW).map(list).collect();
         components.sort_by(|a, b| a.0.cmp(&b.0));
         lists.sort_by(|a, b| a.0.cmp(&b.0));
-        Ok(Record { default: model.default_output()?, components, lists })
+        Ok(Record { default: place(&bytes[DEFAULT..]), components, lists })
     }
 
     pub fn words(&self) -> String {
@@ -69,6 +73,21 @@ impl Record {
         }
         ModelBytes::from(bytes)
     }
+}
+
+/// The rows of a table that count, by the word that says how many.
+fn table(bytes: &[u8; MODEL_SIZE], counted_at: usize, first: usize, size: usize) -> impl Iterator<Item = &[u8]> {
+    bytes[first..].chunks_exact(size).take(word(bytes, counted_at) as usize)
+}
+
+fn component(row: &[u8]) -> (Tag, Row) {
+    let numbers = [8, 16, 24, 32, 40].map(|at| word(row, TAG_ROW + at));
+    (tag(row), Row { kind: word(row, TAG_ROW), numbers })
+}
+
+fn list(row: &[u8]) -> (Tag, Places) {
+    let places = row[TAG_ROW + 8..].chunks_exact(TAG_ROW).take(word(row, TAG_ROW) as usize);
+    (tag(row), places.map(place).collect())
 }
 
 /// A count, and so many rows.
