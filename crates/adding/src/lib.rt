@@ -84,7 +84,7 @@ pub fn add_function(m: Model, tag: &[u8], c: Component) -> Edited
 }
 
 // Whether a tag that is given and looked at is longer than 32 bytes.
-fn too_long(given: bool, n: usize, a: &[u8], b: &[u8], d: &[u8]) -> bool
+pub fn too_long(given: bool, n: usize, a: &[u8], b: &[u8], d: &[u8]) -> bool
     ensures { λ r. ⌜ r ≡ any overlong (lookedAt (inputsOf given n (now (a .entry)) (now (b .entry)) (now (d .entry)))) ⌝ }
 {
     if !given {
@@ -109,7 +109,7 @@ fn too_long(given: bool, n: usize, a: &[u8], b: &[u8], d: &[u8]) -> bool
 }
 
 // Whether as many inputs as the operation takes are given, or none.
-fn inputs_fit(given: bool, n: usize, k: usize) -> bool
+pub fn inputs_fit(given: bool, n: usize, k: usize) -> bool
     ensures { λ r. ⌜ r ≡ fitting given n k ⌝ }
 {
     if given {
@@ -118,10 +118,9 @@ fn inputs_fit(given: bool, n: usize, k: usize) -> bool
     true
 }
 
-// A list of k unassigned places.
-fn unassigned_row(t: Tag, k: usize) -> InputList
-    requires { ⌜ k ≤ 3 ⌝ }
-    ensures { λ r. ⌜ RowOf t (replicate k none) r ⌝ }
+// A list of k unassigned places, three at most.
+pub fn unassigned_row(t: Tag, k: usize) -> InputList
+    ensures { λ r. ⌜ (k ≤ 3 → RowOf t (replicate k none) r) ⌝ }
 {
     let p = Place {
         assigned: false,
@@ -136,8 +135,7 @@ fn unassigned_row(t: Tag, k: usize) -> InputList
 
 // A list of the first k of three tags.
 fn given_row(t: Tag, k: usize, a: &[u8], b: &[u8], d: &[u8]) -> InputList
-    requires { ⌜ Short k (now a) (now b) (now d) ⌝ }
-    ensures { λ r. ⌜ RowOf t (map some (take k (now (a .entry) ∷ now (b .entry) ∷ now (d .entry) ∷ []))) r ⌝ }
+    ensures { λ r. ⌜ (Short k (now (a .entry)) (now (b .entry)) (now (d .entry)) → RowOf t (map some (take k (now (a .entry) ∷ now (b .entry) ∷ now (d .entry) ∷ []))) r) ⌝ }
 {
     let x = tag::tag_of(a);
     let y = tag::tag_of(b);
@@ -161,11 +159,9 @@ fn given_row(t: Tag, k: usize, a: &[u8], b: &[u8], d: &[u8]) -> InputList
     }
 }
 
-// The list of a new operation: the inputs given, or unassigned places.
-fn operation_row(t: Tag, given: bool, k: usize, a: &[u8], b: &[u8], d: &[u8]) -> InputList
-    requires { ⌜ (k ≤ 3) ⌝ }
-    requires { ⌜ ((given ≡ true) → Short k (now a) (now b) (now d)) ⌝ }
-    ensures { λ r. ⌜ RowOf t (asked given k (now (a .entry)) (now (b .entry)) (now (d .entry))) r ⌝ }
+// The list of a new operation: the inputs given, or unassigned places. It is right where they are short and three at most.
+pub fn operation_row(t: Tag, given: bool, k: usize, a: &[u8], b: &[u8], d: &[u8]) -> InputList
+    ensures { λ r. ⌜ (k ≤ 3 → (given ≡ true → Short k (now (a .entry)) (now (b .entry)) (now (d .entry))) → RowOf t (asked given k (now (a .entry)) (now (b .entry)) (now (d .entry))) r) ⌝ }
 {
     if given {
         return given_row(t, k, a, b, d);

@@ -1,5 +1,2 @@
--- `Said`: the model that bytes hold, and the report. `Form`: order and number. `Tables`, `Parameters`: what is read.
-pub mod Said
+-- `Form`: order and number.
 pub mod Form
-pub mod Tables
-pub mod Parameters

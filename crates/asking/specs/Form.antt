@@ -20,7 +20,7 @@ use Rattle.rows.specs.Rows.{tagIn, rowsIn}
 use Rattle.rows.specs.Written.{Wrote}
 use Rattle.model_bytes.specs.ModelBytes.{modelIn}
 use Rattle.report.specs.Report.{Report, ofReply}
-use Rattle.asking.specs.Said.{plain, Says}
+use Rattle.opened.specs.Said.{plain, Says}
 
 -- ---- dw_check: 0, or 7
 

@@ -1,4 +1,1 @@
-pub mod Said
 pub mod Form
-pub mod Tables
-pub mod Parameters

@@ -1,7 +1,4 @@
 // A model checked, its form's order, and its number at a point.
-use crate::opened::opened;
-use crate::opened::say;
-use crate::opened::say_code;
 use direct::evaluate::evaluate_in;
 use float::bits::float_of;
 use graph::computation_graph::CompiledGraph;
@@ -11,6 +8,9 @@ use graph::evaluate::Evaluating;
 use graph::evaluate::evaluate_at;
 use model::implicit_model::Model;
 use model_bytes::decode::decode;
+use opened::opened;
+use opened::say;
+use opened::say_code;
 use report::number_of;
 use rows::writing::write_tag;
 ghost use mathlib.Core.Path.{_≡_};
@@ -23,7 +23,7 @@ ghost use Rattle.graph.specs.Evaluate.{pointOf, Workable};
 ghost use Rattle.layout.specs.Components.{number};
 ghost use Rattle.rows.specs.Rows.{rowsIn};
 ghost use Rattle.rows.specs.Written.{Wrote};
-ghost use Rattle.asking.specs.Said.{heldIn, Says};
+ghost use Rattle.opened.specs.Said.{heldIn, Says};
 ghost use Rattle.asking.specs.Form.{checked, Evaluates, tagRow, OrderIn, Compiles, replyCode, replyBits, endingCode, tagsOf};
 
 // Whether the bytes hold a model that 7 lets pass.

@@ -1,5 +1,2 @@
-// The calls that read a model and change nothing (docs/ABI.md).
+// The calls that ask a model: whether it is one, its form's order, and its number at a point (docs/ABI.md).
 pub mod form;
-mod opened;
-pub mod parameters;
-pub mod tables;

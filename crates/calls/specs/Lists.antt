@@ -14,7 +14,7 @@ use Rattle.model.specs.Form.{Compiles, Number, Reply, bits, handed, Evaluated}
 use Rattle.model_bytes.specs.ModelBytes.{modelIn}
 use Rattle.report.specs.Report.{reported, ofAnswer, ofReply}
 use Rattle.steady.specs.Lists.{after, newest, Sparing}
-use Rattle.storing.specs.Called.{Holds}
+use Rattle.model_bytes.specs.Calls.{Holds}
 
 -- a new model was written over the bytes s
 pub record Fresh (s t out written : List ℕ) (r : ℕ) : Type 0 where

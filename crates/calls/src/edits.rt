@@ -1,9 +1,16 @@
-// The nine edits on a model in bytes. Each decodes, edits by value and stores: bytes that hold no model decode as a new one, and `store` answers 7.
+// The nine edits on a model in bytes. Each is first tried in the bytes themselves, which copies nothing; where that does not say yes, the edit of the decoded record answers.
+use direct_adding::add_constant_in;
+use direct_adding::add_function_in;
+use direct_removing::remove_component_in;
+use direct_renaming::rename_component_in;
+use direct_setting::set_parameter_in;
+use direct_wiring::add_input_in;
+use direct_wiring::remove_input_in;
 use float::bits::float_of;
-use model_bytes::decode::decode;
-use storing::store::store;
-use storing::words::add_component_of;
-use storing::words::add_operation_with;
+use storing::in_bytes::add_component_in_of;
+use storing::in_bytes::add_operation_in_with;
+use storing::store::tell_done;
+use storing::store::tell_made;
 use storing::words::data_of;
 use storing::words::function_of;
 use storing::words::operation_of;
@@ -17,10 +24,12 @@ ghost use Rattle.storing.specs.Called.{Called};
 pub extern "C" fn dw_add_constant(model: &mut [u8], tag: &[u8], value: u64, out: &mut [u8]) -> u32
     ensures { λ r. ⌜ Called (addConstant (now (tag .entry)) (number value)) (now (model .entry)) (now (model .exit)) (now (out .entry)) (now (out .exit)) r ⌝ }
 {
-    let d = decode(model);
-    let m = d.model;
-    let r = adding::add_constant(m, tag, float_of(value));
-    store(d.ok, r, model, out)
+    let added = add_constant_in(model, tag, float_of(value));
+    if added.ok {
+        let t = added.tag;
+        return tell_made(t, out);
+    }
+    decoded::add_constant(model, tag, value, out)
 }
 
 #[no_mangle]
@@ -37,11 +46,13 @@ pub extern "C" fn dw_add_function(
 ) -> u32
     ensures { λ r. ⌜ Called (addFunction (now (tag .entry)) (functionOf kind a b c d e)) (now (model .entry)) (now (model .exit)) (now (out .entry)) (now (out .exit)) r ⌝ }
 {
-    let read = decode(model);
-    let m = read.model;
     let f = function_of(kind, a, b, c, d, e);
-    let r = adding::add_function(m, tag, f);
-    store(read.ok, r, model, out)
+    let added = add_function_in(model, tag, f);
+    if added.ok {
+        let t = added.tag;
+        return tell_made(t, out);
+    }
+    decoded::add_function(model, tag, kind, a, b, c, d, e, out)
 }
 
 #[no_mangle]
@@ -62,11 +73,27 @@ pub extern "C" fn dw_add_operation(
 ) -> u32
     ensures { λ r. ⌜ Called (addOperation (now (tag .entry)) (operationOf kind a b c d e) (inputsGiven given (now (first .entry)) (now (second .entry)) (now (third .entry)))) (now (model .entry)) (now (model .exit)) (now (out .entry)) (now (out .exit)) r ⌝ }
 {
-    let read = decode(model);
-    let m = read.model;
     let op = operation_of(kind, a, b, c, d, e);
-    let r = add_operation_with(m, tag, op, given, first, second, third);
-    store(read.ok, r, model, out)
+    let added = add_operation_in_with(model, tag, op, given, first, second, third);
+    if added.ok {
+        let t = added.tag;
+        return tell_made(t, out);
+    }
+    decoded::add_operation(
+        model,
+        tag,
+        kind,
+        a,
+        b,
+        c,
+        d,
+        e,
+        given,
+        first,
+        second,
+        third,
+        out,
+    )
 }
 
 #[no_mangle]
@@ -83,10 +110,12 @@ pub extern "C" fn dw_add_component(
 ) -> u32
     ensures { λ r. ⌜ Called (componentEdit (now (tag .entry)) kind a b c d e) (now (model .entry)) (now (model .exit)) (now (out .entry)) (now (out .exit)) r ⌝ }
 {
-    let read = decode(model);
-    let m = read.model;
-    let r = add_component_of(m, tag, kind, a, b, c, d, e);
-    store(read.ok, r, model, out)
+    let added = add_component_in_of(model, tag, kind, a, b, c, d, e);
+    if added.ok {
+        let t = added.tag;
+        return tell_made(t, out);
+    }
+    decoded::add_component(model, tag, kind, a, b, c, d, e, out)
 }
 
 #[no_mangle]
@@ -99,30 +128,30 @@ pub extern "C" fn dw_add_input(
 ) -> u32
     ensures { λ r. ⌜ Called (addInput (now (target .entry)) (now (source .entry)) index) (now (model .entry)) (now (model .exit)) (now (out .entry)) (now (out .exit)) r ⌝ }
 {
-    let d = decode(model);
-    let m = d.model;
-    let r = wiring::add_input(m, target, source, index as usize);
-    store(d.ok, r, model, out)
+    if add_input_in(model, target, source, index as usize) {
+        return tell_done(out);
+    }
+    decoded::add_input(model, target, source, index, out)
 }
 
 #[no_mangle]
 pub extern "C" fn dw_remove_input(model: &mut [u8], tag: &[u8], index: u64, out: &mut [u8]) -> u32
     ensures { λ r. ⌜ Called (removeInput (now (tag .entry)) index) (now (model .entry)) (now (model .exit)) (now (out .entry)) (now (out .exit)) r ⌝ }
 {
-    let d = decode(model);
-    let m = d.model;
-    let r = wiring::remove_input(m, tag, index as usize);
-    store(d.ok, r, model, out)
+    if remove_input_in(model, tag, index as usize) {
+        return tell_done(out);
+    }
+    decoded::remove_input(model, tag, index, out)
 }
 
 #[no_mangle]
 pub extern "C" fn dw_remove_component(model: &mut [u8], tag: &[u8], out: &mut [u8]) -> u32
     ensures { λ r. ⌜ Called (removeComponent (now (tag .entry))) (now (model .entry)) (now (model .exit)) (now (out .entry)) (now (out .exit)) r ⌝ }
 {
-    let d = decode(model);
-    let m = d.model;
-    let r = removing::remove_component(m, tag);
-    store(d.ok, r, model, out)
+    if remove_component_in(model, tag) {
+        return tell_done(out);
+    }
+    decoded::remove_component(model, tag, out)
 }
 
 #[no_mangle]
@@ -134,10 +163,12 @@ pub extern "C" fn dw_rename_component(
 ) -> u32
     ensures { λ r. ⌜ Called (renameComponent (now (old .entry)) (now (new .entry))) (now (model .entry)) (now (model .exit)) (now (out .entry)) (now (out .exit)) r ⌝ }
 {
-    let d = decode(model);
-    let m = d.model;
-    let r = renaming::rename_component(m, old, new);
-    store(d.ok, r, model, out)
+    let renamed = rename_component_in(model, old, new);
+    if renamed.ok {
+        let t = renamed.tag;
+        return tell_made(t, out);
+    }
+    decoded::rename_component(model, old, new, out)
 }
 
 #[no_mangle]
@@ -153,9 +184,9 @@ pub extern "C" fn dw_set_parameter(
 ) -> u32
     ensures { λ r. ⌜ Called (setParameter (now (tag .entry)) (now (name .entry)) (dataOf kind a b c)) (now (model .entry)) (now (model .exit)) (now (out .entry)) (now (out .exit)) r ⌝ }
 {
-    let d = decode(model);
-    let m = d.model;
     let v = data_of(kind, a, b, c);
-    let r = setting::set_parameter(m, tag, name, v);
-    store(d.ok, r, model, out)
+    if set_parameter_in(model, tag, name, v) {
+        return tell_done(out);
+    }
+    decoded::set_parameter(model, tag, name, kind, a, b, c, out)
 }

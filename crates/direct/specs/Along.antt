@@ -12,6 +12,7 @@ use Rattle.geometry.specs.declared.vec3f.Vec3.{Vec3}
 use Rattle.component.specs.Value.{compute}
 use Rattle.component.specs.declared.model_component.Component.{Component}
 use Rattle.model.specs.Form.{Number}
+use Rattle.model.specs.Walk.{clear, walkFrom}
 use Rattle.direct.specs.Standing.{componentRow, tagOf, Stands}
 
 abbrev pub inputOf : List Float → ℕ → Float
@@ -37,3 +38,7 @@ pub record Value (s w : List ℕ) (vals : List Float) (x : ℕ) (p : Vec3) (v : 
 -- v is the number of the component at t, whichever model stands there
 abbrev pub Works : List ℕ → ℕ → List ℕ → Vec3 → ℕ → Float → Type 0
 Works s n w p t v = (g : Stands s n w) → Number (g .model) p (tagOf s t) v
+
+-- the walk of `add_input` from the component at `from` meets neither the one at `target` nor a gap, whichever model stands there
+abbrev pub Clear : List ℕ → ℕ → ℕ → ℕ → Type 0
+Clear w n target from = (s : List ℕ) (g : Stands s n w) → target < n → walkFrom (g .model) (tagOf s target) (tagOf s from) ≡ clear

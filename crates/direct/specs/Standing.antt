@@ -93,7 +93,14 @@ pub record Stands (s : List ℕ) (n : ℕ) (w : List ℕ) : Type 0 where
   pub model : Model
   pub is : modelIn s ≡ some model
   pub sound : T (valid model)
+  pub count : n ≡ word s 8
   pub few : n ≤ 64
   pub component : (i : ℕ) (c : Component) → i < n → componentRow s i ≡ some c → component model (tagOf s i) ≡ some c
   pub short : (i : ℕ) → i < n → length (inputs model (tagOf s i)) ≤ 3
   pub wired : (i p : ℕ) → i < n → p < 3 → Leads s n (inputs model (tagOf s i)) p (getD w (i * 3 + p) 0)
+
+-- the bytes hold a model that 7 lets pass
+pub record Passing (s : List ℕ) : Type 0 where
+  pub model : Model
+  pub is : modelIn s ≡ some model
+  pub sound : T (valid model)

@@ -23,7 +23,7 @@ fn is_served(done: &[u8; 64], i: usize) -> bool
 }
 
 // The component at x, one of n, has all its places served.
-fn is_ready(w: &[usize; 192], done: &[u8; 64], n: usize, x: usize) -> bool
+pub(crate) fn is_ready(w: &[usize; 192], done: &[u8; 64], n: usize, x: usize) -> bool
     requires { ⌜ n ≤ 64 ⌝ }
     ensures { λ r. ⌜ (r ≡ true → Ready (now (w .entry)) (now (done .entry)) n x) ⌝ }
 {

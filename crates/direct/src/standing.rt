@@ -16,7 +16,7 @@ ghost use mathlib.Core.Bool.{true, false};
 ghost use Prim.Native.Nat.{_+_, _≤_, _<_};
 ghost use lib.ListN.{length};
 ghost use Rattle.layout.specs.Components.{componentRead};
-ghost use Rattle.direct.specs.Standing.{componentRow, Named, PlaceNamed, Listing, Listed, Owners, Filled, DefaultNamed, Wire, Wires, Stands};
+ghost use Rattle.direct.specs.Standing.{componentRow, Named, PlaceNamed, Listing, Listed, Owners, Filled, DefaultNamed, Wire, Wires, Stands, Passing};
 
 // The component of the first n whose tag is t, by its key k; 65 where the key does not tell.
 pub(crate) fn component_named(s: &[u8], keys: &[u64; 128], n: usize, k: u64, t: &[u8]) -> usize
@@ -204,7 +204,7 @@ fn not_standing() -> Standing
 }
 
 // A model that 7 lets pass, with its wires.
-pub(crate) fn wired(s: &[u8]) -> Standing
+pub fn wired(s: &[u8]) -> Standing
     ensures { λ r. ⌜ (r .ok ≡ true → Stands (now (s .entry)) (r .n) (r .wires)) ⌝ }
 {
     if !holds(s) {
@@ -238,4 +238,12 @@ pub(crate) fn wired(s: &[u8]) -> Standing
         wires: w,
         n,
     }
+}
+
+// Whether the bytes hold a model that 7 lets pass. A yes is right.
+pub fn stands(s: &[u8]) -> bool
+    ensures { λ r. ⌜ (r ≡ true → Passing (now (s .entry))) ⌝ }
+{
+    let standing = wired(s);
+    standing.ok
 }

@@ -68,9 +68,9 @@ pub fn remove_input(m: &mut Model, tag: &[u8], index: usize) -> Answer
 pub fn remove_component(m: &mut Model, tag: &[u8]) -> Answer
     ensures { λ r. ⌜ Meets (removeComponent (now (tag .entry))) (now (m .entry)) (record { answer = r; model = now (m .exit) }) ⌝ }
 {
-    let e = removing::remove_component(*m, tag);
-    *m = e.model;
-    e.answer
+    let removed = removing::remove_component(*m, tag);
+    *m = removed.model;
+    removed.answer
 }
 
 pub fn rename_component(m: &mut Model, old: &[u8], new: &[u8]) -> Answer

@@ -7,7 +7,7 @@ use mathlib.Core.Option.{some, Option·getD}
 use lib.Dec.{eqb}
 use lib.ListN.{length, getD}
 use Rattle.model.specs.declared.implicit_model.Model.{Model as Record}
-use Rattle.model.specs.Model.{new}
+use Rattle.model.specs.Model.{Model, Same, valid, new}
 use Rattle.model.specs.View.{view, fits}
 use Rattle.layout.specs.EditRows.{isSome}
 use Rattle.model_bytes.specs.declared.decode.Decoded.{Decoded}
@@ -24,6 +24,14 @@ pub record Spares (n k : ℕ) (s t : List ℕ) : Type 0 where
   pub size : length t ≡ length s
   pub components : (i : ℕ) → 64 + 88 * n ≤ i → i < 5696 → getD t i 0 ≡ getD s i 0
   pub lists : (i : ℕ) → 5696 + 168 * k ≤ i → getD t i 0 ≡ getD s i 0
+
+-- The bytes t hold the model m, at any table positions, and 7 lets it pass. Rows past its counts are as they were in s.
+pub record Holds (m : Model) (s t : List ℕ) : Type 0 where
+  pub model : Model
+  pub held : modelIn t ≡ some model
+  pub same : Same m model
+  pub passing : valid model ≡ true
+  pub rows : Spares (length (model .components)) (length (model .lists)) s t
 
 -- encoded into s, which is t afterwards: where there is room and the record fits, t holds what the record holds, and rows past its counts are as they were; else nothing is changed
 pub record Encodes (m : Record) (s t : List ℕ) (r : Bool) : Type 0 where

@@ -8,10 +8,11 @@ use model::model_error::Ending;
 use model_bytes::encode::encode;
 use report::number_of;
 use report::write_report;
+use tag::Tag;
 ghost use mathlib.Core.Path.{_≡_};
 ghost use mathlib.Core.List.{[]};
 ghost use Rattle.tag.specs.View.{bytesOf};
-ghost use Rattle.model.specs.Edit.{refused, done as edit-done};
+ghost use Rattle.model.specs.Edit.{refused, done as edit-done, made as edit-made};
 ghost use Rattle.model.specs.Answer.{answerOf};
 ghost use Rattle.graph.specs.Evaluate.{replyOf};
 ghost use Rattle.storing.specs.Steps.{Told, Replied, Written, Stored};
@@ -26,8 +27,8 @@ fn wide(x: u32) -> u64
 pub fn tell_done(out: &mut [u8]) -> u32
     ensures { λ r. ⌜ Told edit-done (now (out .entry)) (now (out .exit)) r ⌝ }
 {
-    let t = tag::empty_tag();
-    write_report(out, 0, 0, t, 0);
+    let none = tag::empty_tag();
+    write_report(out, 0, 0, none, 0);
     0
 }
 
@@ -35,9 +36,17 @@ pub fn tell_done(out: &mut [u8]) -> u32
 pub fn tell_7(out: &mut [u8]) -> u32
     ensures { λ r. ⌜ Told (refused 7 [] 0) (now (out .entry)) (now (out .exit)) r ⌝ }
 {
-    let t = tag::empty_tag();
-    write_report(out, 7, 0, t, 0);
+    let none = tag::empty_tag();
+    write_report(out, 7, 0, none, 0);
     7
+}
+
+// Of an edit that made a tag.
+pub fn tell_made(t: Tag, out: &mut [u8]) -> u32
+    ensures { λ r. ⌜ Told (edit-made (bytesOf t)) (now (out .entry)) (now (out .exit)) r ⌝ }
+{
+    write_report(out, 0, 0, t, 0);
+    0
 }
 
 // Of an edit: only a refusal has an index, and only a tag that was made or that a refusal carries is reported.
@@ -48,10 +57,7 @@ pub fn tell(a: Answer, out: &mut [u8]) -> u32
     let t = a.tag;
     match ending {
         Ending::Done => tell_done(out),
-        Ending::Made => {
-            write_report(out, 0, 0, t, 0);
-            0
-        }
+        Ending::Made => tell_made(t, out),
         Ending::Refused(e) => {
             let code = number_of(e);
             write_report(out, wide(code), a.index as u64, t, 0);

@@ -37,7 +37,7 @@ use Rattle.adding.proofs.Laws.Grown.{grown-stands, grown-same, lists-st
 use Rattle.adding.proofs.Laws.Operation.{full-is, put-done}
 
 -- a record of a tag within its size is not too long
-fits-not-long : (u : Label) → tagFits u ≡ true → overlong (bytesOf u) ≡ false
+pub fits-not-long : (u : Label) → tagFits u ≡ true → overlong (bytesOf u) ≡ false
 fits-not-long u h = go (overlong (bytesOf u)) (fits-short u (true→T (tagFits u) h))
   where
     go : (b : Bool) → T (not b) → b ≡ false

@@ -18,17 +18,13 @@ use Rattle.tag.proofs.Laws.Is.{is-true}
 use Rattle.tag.proofs.Laws.View.{made-whole}
 use Rattle.component.specs.declared.model_component.Component.{Component}
 use Rattle.model.specs.declared.implicit_model.Model.{Model as Record}
-use Rattle.held.specs.declared.find.Found.{Found}
-use Rattle.held.specs.declared.find.Found.the-variants.{At, Nothing}
 use Rattle.model.specs.Table.{all, Table, held}
-use Rattle.model.specs.Model.{shortTag}
+use Rattle.model.specs.Model.{Model, shortTag, valid}
 use Rattle.model.specs.Edit.{firstFree, freeTag}
 use Rattle.model.specs.View.{componentsOf, view, passes}
-use Rattle.held.specs.Search.{Sought}
 use Rattle.model.proofs.Laws.Bool.{true→T, and-T₁, and-T₂}
 use Rattle.model.proofs.Laws.Valid.{valid-passed}
 use Rattle.held.proofs.Laws.Standing.{passes-valid}
-use Rattle.edit.proofs.Laws.Tests.{taken, free}
 use Rattle.adding.specs.Free.{FreeTag}
 
 -- a tag that is too long is not held
@@ -41,9 +37,13 @@ not-held (x ∷ r) t h e = go (not-held r t (and-T₂ (shortTag x) (all shortTag
     go ih true p = absurd (subst (λ (y : Bool). T (not y)) (ap overlong (is-true (x .0) t p) ∙ e) (and-T₁ (shortTag x) (all shortTag r) h))
     go ih false p = ih
 
-long-free : (m : Record) (t : Tag) → passes m ≡ true → overlong t ≡ true → held t (componentsOf m) ≡ false
+-- a model that 7 lets pass holds short tags alone
+pub tags-short : (m : Model) → T (valid m) → T (all shortTag (m .components))
+tags-short m v = valid-passed m v .1 .1 .0
+
+pub record-short : (m : Record) → passes m ≡ true → T (all shortTag (componentsOf m))
 unfolding view
-long-free m t v e = not-held (componentsOf m) t (valid-passed (view m) (passes-valid m v) .1 .1 .0) e
+record-short m v = tags-short (view m) (passes-valid m v)
 
 module _ (cs : Table Component) (t : Tag) where
   at-once : held t cs ≡ false → freeTag cs t ≡ some t
@@ -72,44 +72,43 @@ module _ (cs : Table Component) (t : Tag) where
 pub Trying : Table Component → Tag → ℕ → ℕ → Type 0
 Trying cs t left k = firstFree cs t left k ≡ freeTag cs t
 
-module _ (m : Record) (t : Label) where
-  pub trying-start : {n : ℕ} → n ≡ length (componentsOf m) → held (bytesOf t) (componentsOf m) ≡ true → Trying (componentsOf m) (bytesOf t) (n + 1) 1
+module _ (cs : Table Component) (t : Label) where
+  pub trying-start : {n : ℕ} → n ≡ length cs → held (bytesOf t) cs ≡ true → Trying cs (bytesOf t) (n + 1) 1
   unfolding Trying
-  trying-start {n} e h =
-      ap (λ (i : ℕ). firstFree (componentsOf m) (bytesOf t) i 1) (add-one n ∙ ap suc e) ∙ first-start (componentsOf m) (bytesOf t) h
+  trying-start {n} e h = ap (λ (i : ℕ). firstFree cs (bytesOf t) i 1) (add-one n ∙ ap suc e) ∙ first-start cs (bytesOf t) h
 
-  pub free-once : tagFits t ≡ true → held (bytesOf t) (componentsOf m) ≡ false → FreeTag (componentsOf m) (bytesOf t) (record { fits = true; tag = t })
+  pub free-once : tagFits t ≡ true → held (bytesOf t) cs ≡ false → FreeTag cs (bytesOf t) (record { fits = true; tag = t })
   free-once s h = record {
-    free = λ _. at-once (componentsOf m) (bytesOf t) h;
+    free = λ _. at-once cs (bytesOf t) h;
     short = λ _. s;
     missed = λ e. absurd (true→T false (sym e));
   }
 
-  module _ (left k : ℕ) (h : Trying (componentsOf m) (bytesOf t) left k) where
-    pub free-none : left ≤ 0 → FreeTag (componentsOf m) (bytesOf t) (record { fits = false; tag = t })
+  module _ (left k : ℕ) (h : Trying cs (bytesOf t) left k) where
+    pub free-none : left ≤ 0 → FreeTag cs (bytesOf t) (record { fits = false; tag = t })
     unfolding Trying
     free-none l = record {
       free = λ e. absurd (true→T false e);
       short = λ e. absurd (true→T false e);
-      missed = λ _. inl (sym h ∙ (ap (λ (i : ℕ). firstFree (componentsOf m) (bytesOf t) i k) (let z : left ≡ 0 = omega arith in z) ∙ first-none (componentsOf m) (bytesOf t) k));
+      missed = λ _. inl (sym h ∙ (ap (λ (i : ℕ). firstFree cs (bytesOf t) i k) (let z : left ≡ 0 = omega arith in z) ∙ first-none cs (bytesOf t) k));
     }
 
     module _ (l : 0 < left) (u : Numbered) (f : Fitted (numbered (bytesOf t) k) u) where
       more : left ≡ suc (left - 1)
       more = omega arith
 
-      tried : held (numbered (bytesOf t) k) (componentsOf m) ≡ false → freeTag (componentsOf m) (bytesOf t) ≡ some (numbered (bytesOf t) k)
+      tried : held (numbered (bytesOf t) k) cs ≡ false → freeTag cs (bytesOf t) ≡ some (numbered (bytesOf t) k)
       unfolding Trying
-      tried p = sym h ∙ (ap (λ (i : ℕ). firstFree (componentsOf m) (bytesOf t) i k) more ∙ first-free (componentsOf m) (bytesOf t) (left - 1) k p)
+      tried p = sym h ∙ (ap (λ (i : ℕ). firstFree cs (bytesOf t) i k) more ∙ first-free cs (bytesOf t) (left - 1) k p)
 
       -- it is too long
-      pub free-long : passes m ≡ true → u .fits ≡ false → FreeTag (componentsOf m) (bytesOf t) u
+      pub free-long : T (all shortTag cs) → u .fits ≡ false → FreeTag cs (bytesOf t) u
       free-long v e =
           let o : overlong (numbered (bytesOf t) k) ≡ true = not-off (overlong (numbered (bytesOf t) k)) (sym (f .fits) ∙ e) in
           record {
             free = λ q. absurd (true→T false (sym e ∙ q));
             short = λ q. absurd (true→T false (sym e ∙ q));
-            missed = λ _. inr (numbered (bytesOf t) k, tried (long-free m (numbered (bytesOf t) k) v o), o);
+            missed = λ _. inr (numbered (bytesOf t) k, tried (not-held cs (numbered (bytesOf t) k) v o), o);
           }
         where
           not-off : (b : Bool) → not b ≡ false → b ≡ true
@@ -127,17 +126,16 @@ module _ (m : Record) (t : Label) where
         bytes : bytesOf (u .tag) ≡ numbered (bytesOf t) k
         bytes = made-whole (numbered (bytesOf t) k) (u .tag) fitted (f .made) .labelled .bytes
 
-        module _ (s : Found) (q : Sought (componentsOf m) 64 (bytesOf (u .tag)) s) where
-          pub free-found : s ≡ Nothing → FreeTag (componentsOf m) (bytesOf t) u
-          free-found n = record {
-            free = λ _. tried (ap (λ (b : Tag). held b (componentsOf m)) (sym bytes) ∙ free q n) ∙ ap some (sym bytes);
-            short = λ _. made-whole (numbered (bytesOf t) k) (u .tag) fitted (f .made) .labelled .short;
-            missed = λ z. absurd (true→T false (sym z ∙ e));
-          }
+        pub free-found : held (bytesOf (u .tag)) cs ≡ false → FreeTag cs (bytesOf t) u
+        free-found n = record {
+          free = λ _. tried (ap (λ (b : Tag). held b cs) (sym bytes) ∙ n) ∙ ap some (sym bytes);
+          short = λ _. made-whole (numbered (bytesOf t) k) (u .tag) fitted (f .made) .labelled .short;
+          missed = λ z. absurd (true→T false (sym z ∙ e));
+        }
 
-          pub trying-next : {i : ℕ} → s ≡ At i → Trying (componentsOf m) (bytesOf t) (left - 1) (k + 1)
-          unfolding Trying
-          trying-next n =
-              ap (λ (i : ℕ). firstFree (componentsOf m) (bytesOf t) (left - 1) i) (add-one k)
-              ∙ (sym (first-held (componentsOf m) (bytesOf t) (left - 1) k (ap (λ (b : Tag). held b (componentsOf m)) (sym bytes) ∙ taken q n))
-              ∙ (ap (λ (i : ℕ). firstFree (componentsOf m) (bytesOf t) i k) (sym more) ∙ h))
+        pub trying-next : held (bytesOf (u .tag)) cs ≡ true → Trying cs (bytesOf t) (left - 1) (k + 1)
+        unfolding Trying
+        trying-next n =
+            ap (λ (i : ℕ). firstFree cs (bytesOf t) (left - 1) i) (add-one k)
+            ∙ (sym (first-held cs (bytesOf t) (left - 1) k (ap (λ (b : Tag). held b cs) (sym bytes) ∙ n))
+            ∙ (ap (λ (i : ℕ). firstFree cs (bytesOf t) i k) (sym more) ∙ h))

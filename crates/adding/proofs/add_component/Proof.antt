@@ -85,7 +85,7 @@ input-count-requires : tie.Need-input-count-requires
 input-count-requires c κs = search needs
 
 unassigned-row-requires : tie.Need-unassigned-row-requires
-unassigned-row-requires c κs = let a = c .before .before .before .before .before .before .before .before .before .before .before .before .before .before .before .before .before .before .args in omega (arith, few-inputs (a .c), c .input-count .ensures)
+unassigned-row-requires c κs = search needs
 
 put-list-requires : tie.Need-put-list-requires
 put-list-requires c κs = room-after (c .before .before .before .before .before .before .before .with-more .result) (c .before .before .before .before .before .before .before .before .before .before .before .before .before .before .before .before .before .before .before .args .m) (c .before .before .before .before .find-list .result) (ap (λ (x : Record). x .«list_count») (c .before .before .before .before .before .before .before .with-more .ensures)) (sym (c .before .before .before .no-room .ensures) ∙ c .before .before .if6 .left)
@@ -94,7 +94,7 @@ made-requires-2 : tie.Need-made-requires-2
 made-requires-2 c κs = search needs
 
 returns-7 : tie.Need-returns-7
-returns-7 c = let a = c .before .before .before .before .before .before .before .before .before .before .before .before .before .before .before .before .before .before .before .before .before .args in add-done (a .m) (a .tag .now) (a .c) _ (sym (c .before .before .before .before .before .before .before .before .before .before .before .before .before .before .before .before .before .before .before .is-valid .ensures) ∙ not-false _ (c .before .before .before .before .before .before .before .before .before .before .before .before .before .before .before .before .before .before .if1 .left)) (c .before .before .before .before .before .before .before .before .before .before .before .before .before .before .before .before .before .if2 .left) _ (c .before .before .before .before .before .before .before .before .before .before .before .before .before .before .before .before .tag-of .ensures) _ (c .before .before .before .before .before .before .before .before .before .before .before .before .before .before .before .free-tag .ensures) (not-false _ (c .before .before .before .before .before .before .before .before .before .before .before .before .before .if3 .left)) (size (c .before .before .before .before .before .before .before .before .before .before .before .before .before .before .before .before .before .before .before .before .before)) (c .before .before .before .before .before .before .before .before .before .before .before .if4 .left) (sym (c .before .before .before .before .before .before .before .before .is-operation .ensures) ∙ not-false _ (c .before .before .before .before .before .before .before .if5 .left)) (lsize (c .before .before .before .before .before .before .before .before .before .before .before .before .before .before .before .before .before .before .before .before .before)) _ (c .before .before .before .before .before .before .find-list .ensures) (sym (c .before .before .before .before .before .no-room .ensures) ∙ c .before .before .before .before .if6 .left) (c .before .before .unassigned-row .result) (subst (λ (i : ℕ). RowOf (c .before .before .before .before .before .before .before .before .before .before .before .before .before .before .before .free-tag .result .tag) (replicate i none) (c .before .before .unassigned-row .result)) (c .before .before .before .input-count .ensures) (c .before .before .unassigned-row .ensures)) (subst (λ (x : Record). Ends (made (bytesOf (c .before .before .before .before .before .before .before .before .before .before .before .before .before .before .before .free-tag .result .tag))) x (c .made2 .result)) (c .before .put-list .ensures ∙ ap (λ (x : Record). listPut x (c .before .before .unassigned-row .result) (c .before .before .before .before .before .before .find-list .result)) (c .before .before .before .before .before .before .before .before .before .with-more .ensures)) (c .made2 .ensures))
+returns-7 c = let a = c .before .before .before .before .before .before .before .before .before .before .before .before .before .before .before .before .before .before .before .before .before .args in add-done (a .m) (a .tag .now) (a .c) _ (sym (c .before .before .before .before .before .before .before .before .before .before .before .before .before .before .before .before .before .before .before .is-valid .ensures) ∙ not-false _ (c .before .before .before .before .before .before .before .before .before .before .before .before .before .before .before .before .before .before .if1 .left)) (c .before .before .before .before .before .before .before .before .before .before .before .before .before .before .before .before .before .if2 .left) _ (c .before .before .before .before .before .before .before .before .before .before .before .before .before .before .before .before .tag-of .ensures) _ (c .before .before .before .before .before .before .before .before .before .before .before .before .before .before .before .free-tag .ensures) (not-false _ (c .before .before .before .before .before .before .before .before .before .before .before .before .before .if3 .left)) (size (c .before .before .before .before .before .before .before .before .before .before .before .before .before .before .before .before .before .before .before .before .before)) (c .before .before .before .before .before .before .before .before .before .before .before .if4 .left) (sym (c .before .before .before .before .before .before .before .before .is-operation .ensures) ∙ not-false _ (c .before .before .before .before .before .before .before .if5 .left)) (lsize (c .before .before .before .before .before .before .before .before .before .before .before .before .before .before .before .before .before .before .before .before .before)) _ (c .before .before .before .before .before .before .find-list .ensures) (sym (c .before .before .before .before .before .no-room .ensures) ∙ c .before .before .before .before .if6 .left) (c .before .before .unassigned-row .result) (subst (λ (i : ℕ). RowOf (c .before .before .before .before .before .before .before .before .before .before .before .before .before .before .before .free-tag .result .tag) (replicate i none) (c .before .before .unassigned-row .result)) (c .before .before .before .input-count .ensures) (c .before .before .unassigned-row .ensures (omega (arith, few-inputs (a .c), c .before .before .before .input-count .ensures)))) (subst (λ (x : Record). Ends (made (bytesOf (c .before .before .before .before .before .before .before .before .before .before .before .before .before .before .before .free-tag .result .tag))) x (c .made2 .result)) (c .before .put-list .ensures ∙ ap (λ (x : Record). listPut x (c .before .before .unassigned-row .result) (c .before .before .before .before .before .before .find-list .result)) (c .before .before .before .before .before .before .before .before .before .with-more .ensures)) (c .made2 .ensures))
 
 pub add-component-spec : {M : Type 1} → statement M
 add-component-spec =

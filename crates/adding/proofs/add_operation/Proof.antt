@@ -105,7 +105,7 @@ returns-8 : tie.Need-returns-8
 returns-8 c = let a = c .before .before .before .before .before .before .before .before .before .before .before .before .before .before .before .before .before .before .before .before .before .before .before .before .args in op-16 (a .m) (a .tag .now) (a .c) (a .given) (a .n) (a .a .now) (a .b .now) (a .d .now) _ (sym (c .before .before .before .before .before .before .before .before .before .before .before .before .before .before .before .before .before .before .before .is-valid .ensures) ∙ not-false _ (c .before .before .before .before .before .before .before .before .before .before .before .before .before .before .before .before .before .before .if1 .left)) (c .before .before .before .before .before .before .before .before .before .before .before .before .before .before .before .before .before .if2 .left) (sym (c .before .before .before .before .before .before .before .before .before .before .before .before .before .before .before .if3 .left) ∙ c .before .before .before .before .before .before .before .before .before .before .before .before .before .before .before .before .too-long .ensures) _ (c .before .before .before .before .before .before .before .before .before .before .before .before .before .before .tag-of .ensures) (sym (c .before .before .before .before .before .before .before .before .before .before .before .before .before .is-operation .ensures) ∙ not-false _ (c .before .before .before .before .before .before .before .before .before .before .before .before .if4 .left)) _ (c .before .before .before .before .before .before .before .before .before .before .before .find-component .ensures) (c .before .before .before .before .before .before .before .before .before .enum-told2 .given .1) ((ap (fitting (a .given) (a .n)) (sym (c .before .before .before .before .before .before .before .before .input-count .ensures)) ∙ sym (c .before .before .before .before .before .before .inputs-fit .ensures)) ∙ not-false _ (c .before .before .before .before .before .if5 .left)) (size (c .before .before .before .before .before .before .before .before .before .before .before .before .before .before .before .before .before .before .before .before .before .before .before .before)) (ltb-true _ _ (not-false _ (c .before .before .before .before .if6 .left))) (lsize (c .before .before .before .before .before .before .before .before .before .before .before .before .before .before .before .before .before .before .before .before .before .before .before .before)) _ (c .before .before .before .find-list .ensures) (sym (c .before .before .no-room .ensures) ∙ c .before .if7 .taken) (c .refuse-plain5 .ensures)
 
 operation-row-requires : tie.Need-operation-row-requires
-operation-row-requires c κs = let a = c .before .before .before .before .before .before .before .before .before .before .before .before .before .before .before .before .before .before .before .before .before .before .before .args in (omega (arith, few-inputs (a .c), c .before .before .before .before .before .before .before .input-count .ensures), (λ g. asked-short (a .given) (a .n) _ (a .a .now) (a .b .now) (a .d .now) (sym (c .before .before .before .before .before .before .before .before .before .before .before .before .before .before .before .too-long .ensures) ∙ c .before .before .before .before .before .before .before .before .before .before .before .before .before .before .if3 .left) (sym (c .before .before .before .before .before .inputs-fit .ensures) ∙ not-false _ (c .before .before .before .before .if5 .left)) (omega (arith, few-inputs (a .c), c .before .before .before .before .before .before .before .input-count .ensures)) g))
+operation-row-requires c κs = search needs
 
 with-more-requires : tie.Need-with-more-requires
 with-more-requires c κs = ltb-true _ _ (not-false _ (c .before .before .before .before .if6 .left))
@@ -117,7 +117,7 @@ made-requires : tie.Need-made-requires
 made-requires c κs = search needs
 
 returns-9 : tie.Need-returns-9
-returns-9 c = let a = c .before .before .before .before .before .before .before .before .before .before .before .before .before .before .before .before .before .before .before .before .before .before .before .before .before .before .before .args in op-done (a .m) (a .tag .now) (a .c) (a .given) (a .n) (a .a .now) (a .b .now) (a .d .now) _ (sym (c .before .before .before .before .before .before .before .before .before .before .before .before .before .before .before .before .before .before .before .before .before .before .is-valid .ensures) ∙ not-false _ (c .before .before .before .before .before .before .before .before .before .before .before .before .before .before .before .before .before .before .before .before .before .if1 .left)) (c .before .before .before .before .before .before .before .before .before .before .before .before .before .before .before .before .before .before .before .before .if2 .left) (sym (c .before .before .before .before .before .before .before .before .before .before .before .before .before .before .before .before .before .before .if3 .left) ∙ c .before .before .before .before .before .before .before .before .before .before .before .before .before .before .before .before .before .before .before .too-long .ensures) _ (c .before .before .before .before .before .before .before .before .before .before .before .before .before .before .before .before .before .tag-of .ensures) (sym (c .before .before .before .before .before .before .before .before .before .before .before .before .before .before .before .before .is-operation .ensures) ∙ not-false _ (c .before .before .before .before .before .before .before .before .before .before .before .before .before .before .before .if4 .left)) _ (c .before .before .before .before .before .before .before .before .before .before .before .before .before .before .find-component .ensures) (c .before .before .before .before .before .before .before .before .before .before .before .before .enum-told2 .given .1) ((ap (fitting (a .given) (a .n)) (sym (c .before .before .before .before .before .before .before .before .before .before .before .input-count .ensures)) ∙ sym (c .before .before .before .before .before .before .before .before .before .inputs-fit .ensures)) ∙ not-false _ (c .before .before .before .before .before .before .before .before .if5 .left)) (size (c .before .before .before .before .before .before .before .before .before .before .before .before .before .before .before .before .before .before .before .before .before .before .before .before .before .before .before)) (ltb-true _ _ (not-false _ (c .before .before .before .before .before .before .before .if6 .left))) (lsize (c .before .before .before .before .before .before .before .before .before .before .before .before .before .before .before .before .before .before .before .before .before .before .before .before .before .before .before)) _ (c .before .before .before .before .before .before .find-list .ensures) (sym (c .before .before .before .before .before .no-room .ensures) ∙ c .before .before .before .before .if7 .left) (c .before .before .before .operation-row .result) (subst (λ (i : ℕ). RowOf (c .before .before .before .before .before .before .before .before .before .before .before .before .before .before .before .before .before .tag-of .result) (asked (a .given) i (a .a .now) (a .b .now) (a .d .now)) (c .before .before .before .operation-row .result)) (c .before .before .before .before .before .before .before .before .before .before .before .input-count .ensures) (c .before .before .before .operation-row .ensures)) (subst (λ (x : Record). Ends (made (bytesOf (c .before .before .before .before .before .before .before .before .before .before .before .before .before .before .before .before .before .tag-of .result))) x (c .made .result)) (c .before .put-list .ensures ∙ ap (λ (x : Record). listPut x (c .before .before .before .operation-row .result) (c .before .before .before .before .before .before .find-list .result)) (c .before .before .with-more .ensures)) (c .made .ensures))
+returns-9 c = let a = c .before .before .before .before .before .before .before .before .before .before .before .before .before .before .before .before .before .before .before .before .before .before .before .before .before .before .before .args in op-done (a .m) (a .tag .now) (a .c) (a .given) (a .n) (a .a .now) (a .b .now) (a .d .now) _ (sym (c .before .before .before .before .before .before .before .before .before .before .before .before .before .before .before .before .before .before .before .before .before .before .is-valid .ensures) ∙ not-false _ (c .before .before .before .before .before .before .before .before .before .before .before .before .before .before .before .before .before .before .before .before .before .if1 .left)) (c .before .before .before .before .before .before .before .before .before .before .before .before .before .before .before .before .before .before .before .before .if2 .left) (sym (c .before .before .before .before .before .before .before .before .before .before .before .before .before .before .before .before .before .before .if3 .left) ∙ c .before .before .before .before .before .before .before .before .before .before .before .before .before .before .before .before .before .before .before .too-long .ensures) _ (c .before .before .before .before .before .before .before .before .before .before .before .before .before .before .before .before .before .tag-of .ensures) (sym (c .before .before .before .before .before .before .before .before .before .before .before .before .before .before .before .before .is-operation .ensures) ∙ not-false _ (c .before .before .before .before .before .before .before .before .before .before .before .before .before .before .before .if4 .left)) _ (c .before .before .before .before .before .before .before .before .before .before .before .before .before .before .find-component .ensures) (c .before .before .before .before .before .before .before .before .before .before .before .before .enum-told2 .given .1) ((ap (fitting (a .given) (a .n)) (sym (c .before .before .before .before .before .before .before .before .before .before .before .input-count .ensures)) ∙ sym (c .before .before .before .before .before .before .before .before .before .inputs-fit .ensures)) ∙ not-false _ (c .before .before .before .before .before .before .before .before .if5 .left)) (size (c .before .before .before .before .before .before .before .before .before .before .before .before .before .before .before .before .before .before .before .before .before .before .before .before .before .before .before)) (ltb-true _ _ (not-false _ (c .before .before .before .before .before .before .before .if6 .left))) (lsize (c .before .before .before .before .before .before .before .before .before .before .before .before .before .before .before .before .before .before .before .before .before .before .before .before .before .before .before)) _ (c .before .before .before .before .before .before .find-list .ensures) (sym (c .before .before .before .before .before .no-room .ensures) ∙ c .before .before .before .before .if7 .left) (c .before .before .before .operation-row .result) (subst (λ (i : ℕ). RowOf (c .before .before .before .before .before .before .before .before .before .before .before .before .before .before .before .before .before .tag-of .result) (asked (a .given) i (a .a .now) (a .b .now) (a .d .now)) (c .before .before .before .operation-row .result)) (c .before .before .before .before .before .before .before .before .before .before .before .input-count .ensures) (c .before .before .before .operation-row .ensures (omega (arith, few-inputs (a .c), c .before .before .before .before .before .before .before .before .before .before .before .input-count .ensures)) (λ g. asked-short (a .given) (a .n) _ (a .a .now) (a .b .now) (a .d .now) (sym (c .before .before .before .before .before .before .before .before .before .before .before .before .before .before .before .before .before .before .before .too-long .ensures) ∙ c .before .before .before .before .before .before .before .before .before .before .before .before .before .before .before .before .before .before .if3 .left) (sym (c .before .before .before .before .before .before .before .before .before .inputs-fit .ensures) ∙ not-false _ (c .before .before .before .before .before .before .before .before .if5 .left)) (omega (arith, few-inputs (a .c), c .before .before .before .before .before .before .before .before .before .before .before .input-count .ensures)) g))) (subst (λ (x : Record). Ends (made (bytesOf (c .before .before .before .before .before .before .before .before .before .before .before .before .before .before .before .before .before .tag-of .result))) x (c .made .result)) (c .before .put-list .ensures ∙ ap (λ (x : Record). listPut x (c .before .before .before .operation-row .result) (c .before .before .before .before .before .before .find-list .result)) (c .before .before .with-more .ensures)) (c .made .ensures))
 
 pub add-operation-spec : {M : Type 1} → statement M
 add-operation-spec =

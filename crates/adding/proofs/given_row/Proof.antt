@@ -14,7 +14,7 @@ tag-of-requires-3 : tie.Need-tag-of-requires-3
 tag-of-requires-3 c κs = search needs
 
 returns : tie.Need-returns
-returns c = let s = c .before .before .before .before .before .before in given-row (s .args .a .now) (s .args .b .now) (s .args .d .now) _ _ _ (c .before .before .tag-of .ensures) (c .before .tag-of2 .ensures) (c .tag-of3 .ensures) (s .args .t) (s .args .k) (s .pre)
+returns c = let s = c .before .before .before .before .before .before in given-row (s .args .a .now) (s .args .b .now) (s .args .d .now) _ _ _ (c .before .before .tag-of .ensures) (c .before .tag-of2 .ensures) (c .tag-of3 .ensures) (s .args .t) (s .args .k)
 
 pub given-row-spec : {M : Type 1} → statement M
 given-row-spec = tie.close (tie.spec tag-of-requires tag-of-requires-2 tag-of-requires-3 returns)

@@ -4,7 +4,7 @@ use Rattle.adding.proofs.unassigned_row.Statement.{statement}
 use Rattle.adding.proofs.unassigned_row.Tie as tie
 
 returns : tie.Need-returns
-returns c = let s = c in unassigned-row (s .args .t) (s .args .t) (s .args .k) (s .pre)
+returns c = let s = c in unassigned-row (s .args .t) (s .args .t) (s .args .k)
 
 pub unassigned-row-spec : {M : Type 1} → statement M
 unassigned-row-spec = tie.close (tie.spec returns)

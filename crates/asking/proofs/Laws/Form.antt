@@ -36,9 +36,9 @@ use Rattle.model_bytes.specs.ModelBytes.{modelIn}
 use Rattle.model_bytes.specs.Calls.{Decodes}
 use Rattle.report.specs.Report.{Report, ofReply}
 use Rattle.direct.specs.Evaluate.{EvaluatesIn}
-use Rattle.asking.specs.Said.{heldIn, plain, Says, Opens}
+use Rattle.opened.specs.Said.{heldIn, plain, Says, Opens}
 use Rattle.asking.specs.Form.{checked, Replies, Evaluates, Ends, tagRow, OrderIn, Compiles, replyCode, replyBits, endingCode, tagsOf}
-use Rattle.asking.proofs.Laws.Said.{says-as, unheld, held, judged}
+use Rattle.opened.proofs.Laws.Said.{says-as, unheld, held, judged}
 
 -- ---- dw_check
 

@@ -55,7 +55,7 @@ held-head s h = parts s (h .is) .head
 
 -- ---- rows
 
-both-some : {A B : Type 0} (a : Option A) (b : Option B) {x : A × B} → both a b ≡ some x → (a ≡ some (x .0)) × (b ≡ some (x .1))
+pub both-some : {A B : Type 0} (a : Option A) (b : Option B) {x : A × B} → both a b ≡ some x → (a ≡ some (x .0)) × (b ≡ some (x .1))
 both-some none b e = none-some e
 both-some (some a) none e = none-some e
 both-some {A} {B} (some a) (some b) {x} e = (ap some (ap (λ (y : A × B). y .0) (some-some e)), ap some (ap (λ (y : A × B). y .1) (some-some e)))
@@ -89,7 +89,7 @@ pub record Row (s : List ℕ) (j : ℕ) (x : Tag × List Place) : Type 0 where
   pub short : T (all shortPlace (x .1))
   pub place : (p : ℕ) → p < word s (5736 + 168 * j) → placeIn s (5744 + 168 * j + 40 * p) ≡ some (getD (x .1) p none)
 
-cond-rows : {A : Type 0} (b : Bool) {o : Option A} {x : A} → cond b o none ≡ some x → (b ≡ true) × (o ≡ some x)
+pub cond-rows : {A : Type 0} (b : Bool) {o : Option A} {x : A} → cond b o none ≡ some x → (b ≡ true) × (o ≡ some x)
 cond-rows true e = (refl, e)
 cond-rows false e = none-some e
 

@@ -19,6 +19,7 @@ use Rattle.model.specs.Form.{value, Number, worked, Numbers, nothing, another}
 use Rattle.model.proofs.Laws.Valid.{some-some, none-some}
 use Rattle.direct.specs.Standing.{tagOf, Leads, Stands}
 use Rattle.direct.specs.Along.{inputOf, Served, Ready, Value}
+use Rattle.direct.proofs.Laws.Ready.{served, serves}
 
 -- the numbers of a list's places, where f gives the one of each
 pub record Numbered (m : Model) (p : Vec3) (l : List Place) (f : ℕ → Float) : Type 0 where
@@ -66,28 +67,16 @@ module _ {s : List ℕ} {n : ℕ} {w : List ℕ} {p : Vec3} {vals : List Float} 
   abbrev read : ℕ → Float
   read q = inputOf vals (getD w (x * 3 + q) 0)
 
-  served : (q : ℕ) → q < 3 → Served done (getD w (x * 3 + q) 0)
-  served zero h = subst (λ (i : ℕ). Served done (getD w i 0)) (let z : x * 3 ≡ x * 3 + 0 = omega arith in z) (r .first)
-  served (suc zero) h = r .second
-  served (suc (suc zero)) h = r .third
-  served (suc (suc (suc q))) h = absurd (let z : ⊥ = omega arith in z)
-
   leads : (q : ℕ) → q < 3 → Leads s n places q (getD w (x * 3 + q) 0)
   leads q h = g .wired x q (r .below) h
 
   place : (q : ℕ) → q < length places → (b : Tag) × (getD places q none ≡ some b) × Number (g .model) p b (read q)
-  place q h = go (served q three-at-most)
-    where
-      three-at-most : q < 3
-      three-at-most = omega (arith, g .short x (r .below))
-
-      go : Served done (getD w (x * 3 + q) 0) → (b : Tag) × (getD places q none ≡ some b) × Number (g .model) p b (read q)
-      go (inl e) = absurd (let z : ⊥ = omega (arith, leads q three-at-most .past e) in z)
-      go (inr (l, d)) = (
+  place q h =
+      let v = serves r g q h in (
         tagOf s (getD w (x * 3 + q) 0),
-        leads q three-at-most .named l .2,
+        v .named,
         subst (λ (y : Float). Number (g .model) p (tagOf s (getD w (x * 3 + q) 0)) y)
-            (sym (ap (λ (b : Bool). cond b (getD vals (getD w (x * 3 + q) 0) nan) nan) (lt-ltb (getD w (x * 3 + q) 0) 64 l))) (k .right g (getD w (x * 3 + q) 0) l d),
+            (sym (ap (λ (b : Bool). cond b (getD vals (getD w (x * 3 + q) 0) nan) nan) (lt-ltb (getD w (x * 3 + q) 0) 64 (v .few)))) (k .right g (getD w (x * 3 + q) 0) (v .few) (v .marked)),
       )
 
   numbered : Numbered (g .model) p places read
@@ -102,7 +91,7 @@ module _ {s : List ℕ} {n : ℕ} {w : List ℕ} {p : Vec3} {vals : List Float} 
 
       go : Dec (q < length places) → getD (numbered .numbers) q nan ≡ read q
       go (yes l) = numbered .same q l
-      go (no l) = numbered .past q (omega arith) ∙ unread (served q h) (omega arith)
+      go (no l) = numbered .past q (omega arith) ∙ unread (served r q h) (omega arith)
 
   next-number : {v : Float} → Value s w vals x p v → Number (g .model) p (tagOf s x) v
   unfolding value

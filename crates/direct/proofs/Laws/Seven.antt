@@ -205,6 +205,7 @@ module _ {s : List ℕ} {n k : ℕ} {components lists owners w : List ℕ} (c : 
     model = model;
     is = is;
     sound = good-valid model good;
+    count = c .count;
     few = omega (arith, c .count, part .head .components);
     component = λ i d h e. let t = standing i h in t .found ∙ (sym (t .row) ∙ e);
     short = λ i h. wired-by i h .short;

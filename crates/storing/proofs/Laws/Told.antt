@@ -11,7 +11,7 @@ use Rattle.model.specs.declared.model_error.ModelError.the-variants.{TagTooLong
 use Rattle.model.specs.declared.model_error.Ending.{Ending}
 use Rattle.model.specs.declared.model_error.Ending.the-variants.{Done, Made as MadeTag, Refused}
 use Rattle.model.specs.declared.model_error.Answer.{Answer as AnswerRecord}
-use Rattle.model.specs.Edit.{done, refused}
+use Rattle.model.specs.Edit.{done, made, refused}
 use Rattle.model.specs.Answer.{numberOf, endingOf, answerOf}
 use Rattle.graph.specs.declared.evaluate.Evaluating.{Evaluating}
 use Rattle.graph.specs.declared.evaluate.Evaluating.the-variants.{Number, Refused as Handed}
@@ -38,10 +38,9 @@ module _ {out after : List ℕ} where
     unfolding answerOf
     told-done {r} q h = subst (λ (y : Ending). Told (endingOf y (bytesOf (a .tag)) (a .index)) out after r) (sym q) h
 
-    pub told-made : a .ending ≡ MadeTag → after ≡ reported out (report 0 0 (bytesOf (a .tag)) 0) → Told (answerOf a) out after 0
+    pub told-made : {r : ℕ} → a .ending ≡ MadeTag → Told (made (bytesOf (a .tag))) out after r → Told (answerOf a) out after r
     unfolding answerOf
-    told-made q h =
-        subst (λ (y : Ending). Told (endingOf y (bytesOf (a .tag)) (a .index)) out after 0) (sym q) (record { code = refl; report = h })
+    told-made {r} q h = subst (λ (y : Ending). Told (endingOf y (bytesOf (a .tag)) (a .index)) out after r) (sym q) h
 
     pub told-refused : {e : ModelError} {n k : ℕ} → a .ending ≡ Refused e → n ≡ numberOf e → k ≡ n
         → after ≡ reported out (report k (a .index) (bytesOf (a .tag)) 0) → Told (answerOf a) out after n

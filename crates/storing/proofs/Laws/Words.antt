@@ -1,7 +1,7 @@
 -- Edits made of words. Assumes nothing.
 use Prim.Native.Nat.{ℕ, _-_}
 use mathlib.Core.Path.{_≡_, sym, ap, subst}
-use mathlib.Core.Bool.{true, false}
+use mathlib.Core.Bool.{Bool, true, false}
 use mathlib.Core.List.{List}
 use mathlib.Core.Option.{Option, none, some, Option·getD}
 use lib.Ieee.{binary64, ofBits}
@@ -11,13 +11,14 @@ use Rattle.component.specs.declared.model_component.Component.the-variants.{Con
 use Rattle.component.specs.declared.parameter.Data.{Data}
 use Rattle.component.specs.declared.parameter.Data.the-variants.{Boolean}
 use Rattle.model.specs.declared.implicit_model.Model.{Model as Record}
-use Rattle.model.specs.Edit.{Edit, addOperation, addFunction, addComponent}
+use Rattle.model.specs.Edit.{Edit, Answer, addOperation, addFunction, addComponent}
 use Rattle.edit.specs.declared.Edited.{Edited}
 use Rattle.edit.specs.Meets.{Meets}
 use Rattle.layout.specs.Components.{componentFrom, dataFrom}
 use Rattle.layout.specs.EditRows.{given}
 use Rattle.adding.specs.Inputs.{inputsOf}
 use Rattle.steady.proofs.Laws.Row.{given-none, given-some}
+use Rattle.direct_rows.specs.Took.{Takes}
 use Rattle.storing.specs.Edits.{functionOf, operationOf, dataOf, addedAs, componentEdit}
 
 module _ (kind a b c : ℕ) where
@@ -46,23 +47,25 @@ module _ (kind a b c : ℕ) where
     unfolding operationOf
     operation-none h = sym (ap (λ (o : Option Component). Option·getD o (Constant (ofBits binary64 0))) h)
 
-    module _ {t : Tag} {m : Record} {r : Edited} where
-      pub component-some : {x : Component} → componentFrom kind a b c d e ≡ some x → Meets (addComponent t x) m r → Meets (componentEdit t kind a b c d e) m r
-      unfolding componentEdit
-      component-some h k = subst (λ (o : Option Component). Meets (addedAs t o) m r) (sym h) k
+    pub component-some : (t : Tag) {x : Component} → componentFrom kind a b c d e ≡ some x → addComponent t x ≡ componentEdit t kind a b c d e
+    unfolding componentEdit
+    component-some t h = ap (addedAs t) (sym h)
 
-      pub component-none : componentFrom kind a b c d e ≡ none → Meets (addFunction t Multiply) m r → Meets (componentEdit t kind a b c d e) m r
-      unfolding componentEdit
-      component-none h k = subst (λ (o : Option Component). Meets (addedAs t o) m r) (sym h) k
+    pub component-none : (t : Tag) → componentFrom kind a b c d e ≡ none → addFunction t Multiply ≡ componentEdit t kind a b c d e
+    unfolding componentEdit
+    component-none t h = ap (addedAs t) (sym h)
 
 -- the inputs given
-module _ {t : Tag} {op : Component} {m : Record} {r : Edited} (n : ℕ) (a b d : Tag) where
-  pub with-none : n ≡ 0 → Meets (addOperation t op (inputsOf false 0 a b d)) m r → Meets (addOperation t op (given n a b d)) m r
-  with-none z h = subst (λ (o : Option (List Tag)). Meets (addOperation t op o) m r) (given-none a b d a b d z) h
+module _ (t : Tag) (op : Component) (n : ℕ) (a b d : Tag) where
+  pub with-none : n ≡ 0 → addOperation t op (inputsOf false 0 a b d) ≡ addOperation t op (given n a b d)
+  with-none z = ap (addOperation t op) (given-none a b d a b d z)
 
-  pub with-some : (n ≡ 0 → ⊥) → Meets (addOperation t op (inputsOf true (n - 1) a b d)) m r → Meets (addOperation t op (given n a b d)) m r
-  with-some z h = subst (λ (o : Option (List Tag)). Meets (addOperation t op o) m r) (given-some n a b d z) h
+  pub with-some : (n ≡ 0 → ⊥) → addOperation t op (inputsOf true (n - 1) a b d) ≡ addOperation t op (given n a b d)
+  with-some z = ap (addOperation t op) (given-some n a b d z)
 
 -- the same edit
 pub meets-as : {f e : Edit} {m : Record} {r : Edited} → f ≡ e → Meets f m r → Meets e m r
 meets-as {m = m} {r = r} q h = subst (λ (x : Edit). Meets x m r) q h
+
+pub takes-as : {f e : Edit} {a : Answer} {s t : List ℕ} {b : Bool} → f ≡ e → Takes f a s t b → Takes e a s t b
+takes-as {a = a} {s = s} {t = t} {b = b} q h = subst (λ (x : Edit). Takes x a s t b) q h

@@ -2,7 +2,7 @@
 use borrow.Author.Needs.{needs}
 use mathlib.Core.Path.{sym, ap, _∙_}
 use Rattle.layout.specs.Components.{componentRead}
-use Rattle.storing.proofs.Laws.Words.{component-some, component-none}
+use Rattle.storing.proofs.Laws.Words.{component-some, component-none, meets-as}
 use Rattle.storing.proofs.words.add_component_of.Statement.{statement}
 use Rattle.storing.proofs.words.add_component_of.Tie as tie
 
@@ -16,7 +16,7 @@ add-component-requires : tie.Need-add-component-requires
 add-component-requires c κs = search needs
 
 returns : tie.Need-returns
-returns c = component-some _ _ _ _ _ _ (sym (c .before .before .before .before .component-from .ensures) ∙ ap componentRead (c .before .before .read .given .1)) (c .add-component .ensures)
+returns c = meets-as (component-some _ _ _ _ _ _ _ (sym (c .before .before .before .before .component-from .ensures) ∙ ap componentRead (c .before .before .read .given .1))) (c .add-component .ensures)
 
 enum-told : tie.Need-enum-told
 enum-told c = search needs
@@ -25,7 +25,7 @@ add-function-requires : tie.Need-add-function-requires
 add-function-requires c κs = search needs
 
 returns-2 : tie.Need-returns-2
-returns-2 c = component-none _ _ _ _ _ _ (sym (c .before .before .before .component-from .ensures) ∙ ap componentRead (c .before .enum-told .given .1)) (c .add-function .ensures)
+returns-2 c = meets-as (component-none _ _ _ _ _ _ _ (sym (c .before .before .before .component-from .ensures) ∙ ap componentRead (c .before .enum-told .given .1))) (c .add-function .ensures)
 
 pub add-component-of-spec : {M : Type 1} → statement M
 add-component-of-spec =

@@ -1,6 +1,6 @@
 -- `add_operation_with` meets its contract. Assumes nothing.
 use borrow.Author.Needs.{needs}
-use Rattle.storing.proofs.Laws.Words.{with-none, with-some}
+use Rattle.storing.proofs.Laws.Words.{with-none, with-some, meets-as}
 use Rattle.storing.proofs.words.add_operation_with.Statement.{statement}
 use Rattle.storing.proofs.words.add_operation_with.Tie as tie
 
@@ -8,7 +8,7 @@ add-operation-requires : tie.Need-add-operation-requires
 add-operation-requires c κs = search needs
 
 returns : tie.Need-returns
-returns c = with-none _ _ _ _ (c .before .if1 .taken) (c .add-operation .ensures)
+returns c = meets-as (with-none _ _ _ _ _ _ (c .before .if1 .taken)) (c .add-operation .ensures)
 
 sub-add-operation : tie.Need-sub-add-operation
 sub-add-operation c = search needs
@@ -17,7 +17,7 @@ add-operation-requires-2 : tie.Need-add-operation-requires-2
 add-operation-requires-2 c κs = search needs
 
 returns-2 : tie.Need-returns-2
-returns-2 c = with-some _ _ _ _ (c .before .if1 .left) (c .add-operation2 .ensures)
+returns-2 c = meets-as (with-some _ _ _ _ _ _ (c .before .if1 .left)) (c .add-operation2 .ensures)
 
 pub add-operation-with-spec : {M : Type 1} → statement M
 add-operation-with-spec =

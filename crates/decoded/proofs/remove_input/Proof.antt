@@ -1,0 +1,34 @@
+-- `remove_input` meets its contract. Assumes nothing.
+use borrow.Author.Needs.{needs}
+use Rattle.storing.proofs.Laws.Stored.{called}
+use Rattle.decoded.proofs.remove_input.Statement.{statement}
+use Rattle.decoded.proofs.remove_input.Tie as tie
+
+decode-requires : tie.Need-decode-requires
+decode-requires c κs = search needs
+
+remove-input-requires : tie.Need-remove-input-requires
+remove-input-requires c κs = search needs
+
+store-requires : tie.Need-store-requires
+store-requires c κs = search needs
+
+same-length : tie.Need-same-length
+same-length c = search needs
+
+same-length-2 : tie.Need-same-length-2
+same-length-2 c = search needs
+
+returns : tie.Need-returns
+returns c = called (c .before .before .before .before .before .before .before .before .before .decode .ensures) (c .before .before .before .before .before .before .before .remove-input .ensures) (c .before .before .before .before .store .ensures)
+
+pub remove-input-spec : {M : Type 1} → statement M
+remove-input-spec =
+    tie.close
+    (tie.spec
+    decode-requires
+    remove-input-requires
+    store-requires
+    same-length
+    same-length-2
+    returns)

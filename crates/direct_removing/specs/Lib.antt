@@ -1,0 +1,2 @@
+pub mod Swapping
+pub mod Removing

@@ -1,0 +1,3 @@
+// The rows of a model in bytes, where they stand: found by tag, and written.
+pub mod find;
+pub mod put;

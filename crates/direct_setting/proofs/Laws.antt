@@ -1,0 +1,2 @@
+-- `Setting`: a parameter set in the bytes.
+pub mod Setting

@@ -1,0 +1,2 @@
+-- `Said`: reports, and the model that bytes hold.
+pub mod Said

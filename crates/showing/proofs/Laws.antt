@@ -1,0 +1,3 @@
+-- `Tables`, `Parameters`: what is read.
+pub mod Tables
+pub mod Parameters

@@ -1,0 +1,3 @@
+// The calls that show what a model holds (docs/ABI.md).
+pub mod parameters;
+pub mod tables;
