@@ -11,7 +11,7 @@ ghost use mathlib.Core.Path.{_≡_};
 ghost use Rattle.model.specs.Edit.{addOperation};
 ghost use Rattle.edit.specs.Meets.{Meets};
 ghost use Rattle.layout.specs.EditRows.{given};
-ghost use Rattle.storing.specs.Edits.{functionOf, componentEdit, operationOf, dataOf};
+ghost use Rattle.word_edits.specs.Edits.{functionOf, componentEdit, operationOf, dataOf};
 
 // A function, or a component that is none.
 pub fn function_of(kind: u64, a: u64, b: u64, c: u64, d: u64, e: u64) -> Component

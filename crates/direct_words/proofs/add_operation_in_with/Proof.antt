@@ -1,8 +1,9 @@
 -- `add_operation_in_with` meets its contract. Assumes nothing.
 use borrow.Author.Needs.{needs}
-use Rattle.storing.proofs.Laws.Words.{with-none, with-some, takes-as}
-use Rattle.storing.proofs.in_bytes.add_operation_in_with.Statement.{statement}
-use Rattle.storing.proofs.in_bytes.add_operation_in_with.Tie as tie
+use Rattle.word_edits.proofs.Laws.Words.{with-none, with-some}
+use Rattle.direct_words.proofs.Laws.Direct.{takes-as}
+use Rattle.direct_words.proofs.add_operation_in_with.Statement.{statement}
+use Rattle.direct_words.proofs.add_operation_in_with.Tie as tie
 
 add-operation-in-requires : tie.Need-add-operation-in-requires
 add-operation-in-requires c κs = search needs

@@ -9,7 +9,7 @@ ghost use Rattle.tag.specs.View.{bytesOf};
 ghost use Rattle.model.specs.Edit.{addOperation, made};
 ghost use Rattle.layout.specs.EditRows.{given};
 ghost use Rattle.direct_rows.specs.Took.{Takes};
-ghost use Rattle.storing.specs.Edits.{componentEdit};
+ghost use Rattle.word_edits.specs.Edits.{componentEdit};
 
 pub fn add_component_in_of(
     s: &mut [u8],

@@ -38,3 +38,7 @@ module _ {e : Edit} {s t out after : List ℕ} {r : ℕ} where
   -- not taken so: the bytes are as they were, and the call goes on
   pub not-taken : {a : Answer} {b : Bool} {u : List ℕ} → Takes e a s u b → b ≡ false → Called e u t out after r → Called e s t out after r
   not-taken x q h = subst (λ (v : List ℕ). Called e v t out after r) (x .left q) h
+
+-- the same edit
+pub takes-as : {f e : Edit} {a : Answer} {s t : List ℕ} {b : Bool} → f ≡ e → Takes f a s t b → Takes e a s t b
+takes-as {a = a} {s = s} {t = t} {b = b} q h = subst (λ (x : Edit). Takes x a s t b) q h

@@ -3,9 +3,10 @@ use mathlib.Core.Path.{refl, sym, ap, _∙_}
 use borrow.Author.Needs.{needs}
 use Rattle.layout.specs.Components.{componentRead}
 use Rattle.direct_rows.proofs.Laws.Took.{takes-no}
-use Rattle.storing.proofs.Laws.Words.{component-some, takes-as}
-use Rattle.storing.proofs.in_bytes.add_component_in_of.Statement.{statement}
-use Rattle.storing.proofs.in_bytes.add_component_in_of.Tie as tie
+use Rattle.word_edits.proofs.Laws.Words.{component-some}
+use Rattle.direct_words.proofs.Laws.Direct.{takes-as}
+use Rattle.direct_words.proofs.add_component_in_of.Statement.{statement}
+use Rattle.direct_words.proofs.add_component_in_of.Tie as tie
 
 component-from-requires : tie.Need-component-from-requires
 component-from-requires c κs = search needs

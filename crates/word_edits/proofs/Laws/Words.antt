@@ -1,8 +1,7 @@
 -- Edits made of words. Assumes nothing.
 use Prim.Native.Nat.{ℕ, _-_}
 use mathlib.Core.Path.{_≡_, sym, ap, subst}
-use mathlib.Core.Bool.{Bool, true, false}
-use mathlib.Core.List.{List}
+use mathlib.Core.Bool.{true, false}
 use mathlib.Core.Option.{Option, none, some, Option·getD}
 use lib.Ieee.{binary64, ofBits}
 use Rattle.tag.specs.Tags.{Tag}
@@ -11,15 +10,14 @@ use Rattle.component.specs.declared.model_component.Component.the-variants.{Con
 use Rattle.component.specs.declared.parameter.Data.{Data}
 use Rattle.component.specs.declared.parameter.Data.the-variants.{Boolean}
 use Rattle.model.specs.declared.implicit_model.Model.{Model as Record}
-use Rattle.model.specs.Edit.{Edit, Answer, addOperation, addFunction, addComponent}
+use Rattle.model.specs.Edit.{Edit, addOperation, addFunction, addComponent}
 use Rattle.edit.specs.declared.Edited.{Edited}
 use Rattle.edit.specs.Meets.{Meets}
 use Rattle.layout.specs.Components.{componentFrom, dataFrom}
 use Rattle.layout.specs.EditRows.{given}
 use Rattle.adding.specs.Inputs.{inputsOf}
 use Rattle.steady.proofs.Laws.Row.{given-none, given-some}
-use Rattle.direct_rows.specs.Took.{Takes}
-use Rattle.storing.specs.Edits.{functionOf, operationOf, dataOf, addedAs, componentEdit}
+use Rattle.word_edits.specs.Edits.{functionOf, operationOf, dataOf, addedAs, componentEdit}
 
 module _ (kind a b c : ℕ) where
   pub data-some : {x : Data} → dataFrom kind a b c ≡ some x → x ≡ dataOf kind a b c
@@ -66,6 +64,3 @@ module _ (t : Tag) (op : Component) (n : ℕ) (a b d : Tag) where
 -- the same edit
 pub meets-as : {f e : Edit} {m : Record} {r : Edited} → f ≡ e → Meets f m r → Meets e m r
 meets-as {m = m} {r = r} q h = subst (λ (x : Edit). Meets x m r) q h
-
-pub takes-as : {f e : Edit} {a : Answer} {s t : List ℕ} {b : Bool} → f ≡ e → Takes f a s t b → Takes e a s t b
-takes-as {a = a} {s = s} {t = t} {b = b} q h = subst (λ (x : Edit). Takes x a s t b) q h

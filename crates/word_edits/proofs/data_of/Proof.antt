@@ -2,9 +2,9 @@
 use borrow.Author.Needs.{needs}
 use mathlib.Core.Path.{sym, ap, _∙_}
 use Rattle.layout.specs.Components.{dataRead}
-use Rattle.storing.proofs.Laws.Words.{data-some, data-none}
-use Rattle.storing.proofs.words.data_of.Statement.{statement}
-use Rattle.storing.proofs.words.data_of.Tie as tie
+use Rattle.word_edits.proofs.Laws.Words.{data-some, data-none}
+use Rattle.word_edits.proofs.data_of.Statement.{statement}
+use Rattle.word_edits.proofs.data_of.Tie as tie
 
 data-from-requires : tie.Need-data-from-requires
 data-from-requires c κs = search needs

@@ -2,9 +2,9 @@
 use borrow.Author.Needs.{needs}
 use mathlib.Core.Path.{sym, ap, _∙_}
 use Rattle.layout.specs.Components.{componentRead}
-use Rattle.storing.proofs.Laws.Words.{component-some, component-none, meets-as}
-use Rattle.storing.proofs.words.add_component_of.Statement.{statement}
-use Rattle.storing.proofs.words.add_component_of.Tie as tie
+use Rattle.word_edits.proofs.Laws.Words.{component-some, component-none, meets-as}
+use Rattle.word_edits.proofs.add_component_of.Statement.{statement}
+use Rattle.word_edits.proofs.add_component_of.Tie as tie
 
 component-from-requires : tie.Need-component-from-requires
 component-from-requires c κs = search needs

@@ -1,8 +1,8 @@
 -- `add_operation_with` meets its contract. Assumes nothing.
 use borrow.Author.Needs.{needs}
-use Rattle.storing.proofs.Laws.Words.{with-none, with-some, meets-as}
-use Rattle.storing.proofs.words.add_operation_with.Statement.{statement}
-use Rattle.storing.proofs.words.add_operation_with.Tie as tie
+use Rattle.word_edits.proofs.Laws.Words.{with-none, with-some, meets-as}
+use Rattle.word_edits.proofs.add_operation_with.Statement.{statement}
+use Rattle.word_edits.proofs.add_operation_with.Tie as tie
 
 add-operation-requires : tie.Need-add-operation-requires
 add-operation-requires c κs = search needs
