@@ -1,8 +1,8 @@
 -- `dw_new` meets its contract. Assumes nothing.
 use borrow.Author.Needs.{needs}
-use Rattle.calls.proofs.Laws.Lists.{begun-7, begun-new}
-use Rattle.calls.proofs.lists.dw_new.Statement.{statement}
-use Rattle.calls.proofs.lists.dw_new.Tie as tie
+use Rattle.edit_lists.proofs.Laws.Lists.{begun-7, begun-new}
+use Rattle.edit_lists.proofs.dw_new.Statement.{statement}
+use Rattle.edit_lists.proofs.dw_new.Tie as tie
 
 tell-7-requires : tie.Need-tell-7-requires
 tell-7-requires c κs = search needs

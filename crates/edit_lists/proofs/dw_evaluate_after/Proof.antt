@@ -3,9 +3,9 @@ use borrow.Author.Needs.{needs}
 use mathlib.Core.Path.{sym, _∙_}
 use borrow.Author.Tests.{not-true, not-false}
 use Rattle.storing.proofs.Laws.Stored.{no-model}
-use Rattle.calls.proofs.Laws.Lists.{asked-7, asked-after, after-at}
-use Rattle.calls.proofs.lists.dw_evaluate_after.Statement.{statement}
-use Rattle.calls.proofs.lists.dw_evaluate_after.Tie as tie
+use Rattle.edit_lists.proofs.Laws.Lists.{asked-7, asked-after, after-at}
+use Rattle.edit_lists.proofs.dw_evaluate_after.Statement.{statement}
+use Rattle.edit_lists.proofs.dw_evaluate_after.Tie as tie
 
 decode-requires : tie.Need-decode-requires
 decode-requires c κs = search needs

@@ -26,7 +26,7 @@ use Rattle.steady.specs.declared.AfterList.{AfterList}
 use Rattle.steady.specs.Lists.{after, newest, Sparing}
 use Rattle.steady.specs.Steadied.{Steadied, Promised, After}
 use Rattle.model_bytes.specs.Calls.{Holds}
-use Rattle.calls.specs.Lists.{Begun, Answered, AskedAfter}
+use Rattle.edit_lists.specs.Lists.{Begun, Answered, AskedAfter}
 use Rattle.storing.specs.Steps.{Told, Replied, Written}
 use Rattle.storing.proofs.Laws.Stored.{model-long, passes-is, holds-after}
 

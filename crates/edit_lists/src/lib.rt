@@ -1,4 +1,4 @@
-// A new model in bytes, and a list of edits with the form asked after it.
+// What a host calls to begin a model in bytes, and to run a list of edits with the form asked after it (docs/ABI.md).
 use float::bits::float_of;
 use model_bytes::decode::decode;
 use steady::evaluate_after;
@@ -9,7 +9,7 @@ use storing::store::tell_reply;
 ghost use Rattle.graph.specs.Evaluate.{pointOf};
 ghost use Rattle.layout.specs.Components.{number};
 ghost use Rattle.layout.specs.EditRows.{editsOf};
-ghost use Rattle.calls.specs.Lists.{Begun, AskedAfter};
+ghost use Rattle.edit_lists.specs.Lists.{Begun, AskedAfter};
 
 // Writes a new model; a slice of another length is 7 and is left alone.
 #[no_mangle]
