@@ -1,4 +1,4 @@
-// Parameters: the data under a name; and what a screen shows of a kind.
+// The calls that show a parameter: the data under a name, and what a screen shows of a kind (docs/ABI.md).
 use component::model_component::Reading;
 use component::model_component::input_count;
 use component::parameter::Data;
@@ -18,7 +18,7 @@ use rows::writing::write_three;
 use tag::tag_of;
 ghost use mathlib.Core.Path.{_≡_};
 ghost use Rattle.opened.specs.Said.{Says};
-ghost use Rattle.showing.specs.Parameters.{read, parameterIn, ShowsParameter, kindOf, ofKind, takes, ofParameter};
+ghost use Rattle.showing_parameters.specs.Parameters.{read, parameterIn, ShowsParameter, kindOf, ofKind, takes, ofParameter};
 
 // Answers the data under a name: 1 a value, 2 a vec3, 0 where there is none.
 fn say_data(r: Reading, words: &mut [u8], out: &mut [u8]) -> u32

@@ -2,9 +2,9 @@
 use borrow.Author.Needs.{needs}
 use mathlib.Core.Path.{ap, _∙_}
 use Rattle.component.specs.declared.model_component.Reading.the-variants.{Read}
-use Rattle.showing.proofs.Laws.Parameters.{nothing-shown, boolean-shown, value-shown, vector-shown}
-use Rattle.showing.proofs.parameters.say_data.Statement.{statement}
-use Rattle.showing.proofs.parameters.say_data.Tie as tie
+use Rattle.showing_parameters.proofs.Laws.Parameters.{nothing-shown, boolean-shown, value-shown, vector-shown}
+use Rattle.showing_parameters.proofs.say_data.Statement.{statement}
+use Rattle.showing_parameters.proofs.say_data.Tie as tie
 
 enum-known-r : tie.Need-enum-known-r
 enum-known-r c = search needs

@@ -4,11 +4,11 @@ use mathlib.Core.Path.{refl, sym, ap, _∙_}
 use mathlib.Core.Option.{none, some}
 use borrow.Author.Tests.{not-true, not-false}
 use Rattle.held.specs.Reading.{componentRead}
-use Rattle.showing.specs.Parameters.{read}
-use Rattle.showing.proofs.Laws.Tables.{label-whole}
-use Rattle.showing.proofs.Laws.Parameters.{unread-shown, read-shown, read-7, read-1, read-found}
-use Rattle.showing.proofs.parameters.dw_read_parameter.Statement.{statement}
-use Rattle.showing.proofs.parameters.dw_read_parameter.Tie as tie
+use Rattle.showing_parameters.specs.Parameters.{read}
+use Rattle.opened.proofs.Laws.Said.{label-whole}
+use Rattle.showing_parameters.proofs.Laws.Parameters.{unread-shown, read-shown, read-7, read-1, read-found}
+use Rattle.showing_parameters.proofs.dw_read_parameter.Statement.{statement}
+use Rattle.showing_parameters.proofs.dw_read_parameter.Tie as tie
 
 opened-requires : tie.Need-opened-requires
 opened-requires c κs = search needs

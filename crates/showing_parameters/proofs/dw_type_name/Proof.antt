@@ -3,9 +3,9 @@ use native.Mathlib.Omega.{arith}
 use borrow.Author.Needs.{needs}
 use mathlib.Core.Path.{sym, ap, _∙_}
 use Rattle.layout.specs.Components.{componentRead}
-use Rattle.showing.proofs.Laws.Parameters.{inputs-few, kind-none, kind-named}
-use Rattle.showing.proofs.parameters.dw_type_name.Statement.{statement}
-use Rattle.showing.proofs.parameters.dw_type_name.Tie as tie
+use Rattle.showing_parameters.proofs.Laws.Parameters.{inputs-few, kind-none, kind-named}
+use Rattle.showing_parameters.proofs.dw_type_name.Statement.{statement}
+use Rattle.showing_parameters.proofs.dw_type_name.Tie as tie
 
 component-from-requires : tie.Need-component-from-requires
 component-from-requires c κs = search needs

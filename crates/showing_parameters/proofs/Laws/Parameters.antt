@@ -29,7 +29,7 @@ use Rattle.rows.specs.Written.{Writes}
 use Rattle.model_bytes.specs.declared.decode.Decoded.{Decoded}
 use Rattle.report.specs.Report.{Report}
 use Rattle.opened.specs.Said.{plain, answered, Says, Opens}
-use Rattle.showing.specs.Parameters.{Asked, unread, read, readOf, readShort, readIn, parameterIn, ShowsParameter, kindOf, ofKind, takes, ofParameter}
+use Rattle.showing_parameters.specs.Parameters.{Asked, unread, read, readOf, readShort, readIn, parameterIn, ShowsParameter, kindOf, ofKind, takes, ofParameter}
 use Rattle.opened.proofs.Laws.Said.{says-as}
 
 -- ---- shown

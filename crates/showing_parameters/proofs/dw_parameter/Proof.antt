@@ -2,9 +2,9 @@
 use borrow.Author.Needs.{needs}
 use mathlib.Core.Path.{sym, ap, _∙_}
 use Rattle.layout.specs.Components.{componentRead}
-use Rattle.showing.proofs.Laws.Parameters.{parameter-none, parameter-named}
-use Rattle.showing.proofs.parameters.dw_parameter.Statement.{statement}
-use Rattle.showing.proofs.parameters.dw_parameter.Tie as tie
+use Rattle.showing_parameters.proofs.Laws.Parameters.{parameter-none, parameter-named}
+use Rattle.showing_parameters.proofs.dw_parameter.Statement.{statement}
+use Rattle.showing_parameters.proofs.dw_parameter.Tie as tie
 
 component-from-requires : tie.Need-component-from-requires
 component-from-requires c κs = search needs
