@@ -6,18 +6,18 @@ use direct_renaming::rename_component_in;
 use direct_setting::set_parameter_in;
 use direct_wiring::add_input_in;
 use direct_wiring::remove_input_in;
+use direct_words::add_component_in_of;
+use direct_words::add_operation_in_with;
 use float::bits::float_of;
-use storing::in_bytes::add_component_in_of;
-use storing::in_bytes::add_operation_in_with;
 use storing::store::tell_done;
 use storing::store::tell_made;
-use storing::words::data_of;
-use storing::words::function_of;
-use storing::words::operation_of;
+use word_edits::data_of;
+use word_edits::function_of;
+use word_edits::operation_of;
 ghost use Rattle.model.specs.Edit.{addOperation, addConstant, addFunction, addInput, removeInput, removeComponent, renameComponent, setParameter};
 ghost use Rattle.layout.specs.Components.{number};
 ghost use Rattle.layout.specs.EditRows.{given as inputsGiven};
-ghost use Rattle.storing.specs.Edits.{functionOf, componentEdit, operationOf, dataOf};
+ghost use Rattle.word_edits.specs.Edits.{functionOf, componentEdit, operationOf, dataOf};
 ghost use Rattle.storing.specs.Called.{Called};
 
 #[no_mangle]

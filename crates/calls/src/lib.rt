@@ -1,3 +1,2 @@
-// What a host calls to change a model that it holds in bytes (docs/ABI.md).
+// What a host calls to make an edit of a model that it holds in bytes (docs/ABI.md).
 pub mod edits;
-pub mod lists;

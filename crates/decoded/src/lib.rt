@@ -2,15 +2,15 @@
 use float::bits::float_of;
 use model_bytes::decode::decode;
 use storing::store::store;
-use storing::words::add_component_of;
-use storing::words::add_operation_with;
-use storing::words::data_of;
-use storing::words::function_of;
-use storing::words::operation_of;
+use word_edits::add_component_of;
+use word_edits::add_operation_with;
+use word_edits::data_of;
+use word_edits::function_of;
+use word_edits::operation_of;
 ghost use Rattle.model.specs.Edit.{addOperation, addConstant, addFunction, addInput, removeInput, removeComponent, renameComponent, setParameter};
 ghost use Rattle.layout.specs.Components.{number};
 ghost use Rattle.layout.specs.EditRows.{given as inputsGiven};
-ghost use Rattle.storing.specs.Edits.{functionOf, componentEdit, operationOf, dataOf};
+ghost use Rattle.word_edits.specs.Edits.{functionOf, componentEdit, operationOf, dataOf};
 ghost use Rattle.storing.specs.Called.{Called};
 
 pub fn add_constant(model: &mut [u8], tag: &[u8], value: u64, out: &mut [u8]) -> u32

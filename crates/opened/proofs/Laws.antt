@@ -1,2 +1,2 @@
--- `Said`: reports, and the model that bytes hold.
+-- `Said`: reports, the model that bytes hold, and a tag as a record.
 pub mod Said

@@ -1,3 +1,2 @@
--- `Tables`, `Parameters`: what is read.
+-- `Tables`: what is read.
 pub mod Tables
-pub mod Parameters

@@ -1,3 +1,2 @@
 // The calls that show what a model holds (docs/ABI.md).
-pub mod parameters;
 pub mod tables;

@@ -1,5 +1,3 @@
--- `Told`: reports of answers and replies. `Words`: edits made of words. `Stored`: the contract of an edit on bytes. `Direct`: the same of an edit made in the bytes themselves.
+-- `Told`: reports of answers and replies. `Stored`: the contract of an edit on bytes.
 pub mod Told
-pub mod Words
 pub mod Stored
-pub mod Direct

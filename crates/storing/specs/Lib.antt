@@ -1,3 +1,2 @@
-pub mod Edits
 pub mod Called
 pub mod Steps

@@ -1,4 +1,2 @@
-// What the calls that change a model share: edits made of words, and how a call ends.
-pub mod in_bytes;
+// What the calls that change a model share: how a call ends, and what it promises.
 pub mod store;
-pub mod words;

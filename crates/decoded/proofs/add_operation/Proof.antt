@@ -5,7 +5,7 @@ use Rattle.component.specs.declared.model_component.Component.{Component}
 use Rattle.model.specs.Edit.{addOperation}
 use Rattle.layout.specs.EditRows.{given}
 use Rattle.storing.proofs.Laws.Stored.{called}
-use Rattle.storing.proofs.Laws.Words.{meets-as}
+use Rattle.word_edits.proofs.Laws.Words.{meets-as}
 use Rattle.decoded.proofs.add_operation.Statement.{statement}
 use Rattle.decoded.proofs.add_operation.Tie as tie
 

@@ -1,9 +1,14 @@
--- The model that bytes hold, where 7 lets it pass; and reports. Assumes nothing.
-use Prim.Native.Nat.{ℕ}
+-- The model that bytes hold, where 7 lets it pass; reports; and a tag as a record. Assumes nothing.
+use Prim.Native.Nat.{ℕ, _≤_}
 use mathlib.Core.Path.{_≡_, refl, sym, ap, subst, _∙_}
 use mathlib.Core.Bool.{Bool, true, false, _&&_, cond}
 use mathlib.Core.List.{List}
 use mathlib.Core.Option.{Option, none, some}
+use lib.ListN.{length, take}
+use lib.Seq.{take-all}
+use Rattle.tag.specs.declared.Tag.{Tag as Label}
+use Rattle.tag.specs.Tags.{Tag}
+use Rattle.tag.specs.View.{bytesOf, Made}
 use Rattle.model.specs.declared.implicit_model.Model.{Model as Record}
 use Rattle.model.specs.Model.{Model, valid}
 use Rattle.model.specs.View.{view, fits, passes}
@@ -18,6 +23,10 @@ use Rattle.opened.specs.Said.{letPass, heldIn, Says, Opens}
 
 pub says-as : {r q : Report} {out after : List ℕ} {code : ℕ} → Says r out after code → r ≡ q → Says q out after code
 says-as {out = out} {after = after} {code = code} s e = subst (λ (x : Report). Says x out after code) e s
+
+-- a tag of at most 32 bytes, as a record
+pub label-whole : (t : Tag) (r : Label) → length t ≤ 32 → Made (take 32 t) r → bytesOf r ≡ t
+label-whole t r h m = m .labelled .bytes ∙ take-all 32 t h
 
 -- ---- what was decoded
 

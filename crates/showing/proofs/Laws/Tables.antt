@@ -4,12 +4,11 @@ use mathlib.Core.Path.{_≡_, refl, sym, ap, subst, _∙_}
 use mathlib.Core.Bool.{Bool, true, false, cond}
 use mathlib.Core.List.{List}
 use mathlib.Core.Option.{Option, none, some}
-use lib.ListN.{length, take, getElem?}
-use lib.Seq.{take-all}
+use lib.ListN.{length, getElem?}
 use borrow.Author.Tests.{lt-ltb, le-ltb}
 use Rattle.tag.specs.declared.Tag.{Tag as Label}
 use Rattle.tag.specs.Tags.{Tag, overlong}
-use Rattle.tag.specs.View.{bytesOf, Made}
+use Rattle.tag.specs.View.{bytesOf}
 use Rattle.component.specs.declared.model_component.Component.{Component}
 use Rattle.model.specs.declared.implicit_model.Place.{Place as PlaceRecord}
 use Rattle.held.specs.declared.reading.EntryAnswer.{EntryAnswer}
@@ -24,10 +23,6 @@ use Rattle.model_bytes.specs.declared.decode.Decoded.{Decoded}
 use Rattle.opened.specs.Said.{heldIn, plain, answered, Says, Opens}
 use Rattle.showing.specs.Tables.{defaultOf, ofDefault, Finding, refused, nothing, held, atPosition, underTag, short, inModel, componentAt, componentUnder, listAt, listUnder, ShowsComponent, ShowsList}
 use Rattle.opened.proofs.Laws.Said.{says-as}
-
--- a tag of at most 32 bytes, as a record
-pub label-whole : (t : Tag) (r : Label) → length t ≤ 32 → Made (take 32 t) r → bytesOf r ≡ t
-label-whole t r h m = m .labelled .bytes ∙ take-all 32 t h
 
 -- ---- shown
 

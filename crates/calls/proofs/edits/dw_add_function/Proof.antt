@@ -2,8 +2,7 @@
 use mathlib.Core.Path.{ap}
 use borrow.Author.Needs.{needs}
 use Rattle.model.specs.Edit.{addFunction}
-use Rattle.storing.proofs.Laws.Words.{takes-as}
-use Rattle.storing.proofs.Laws.Direct.{taken-made, not-taken}
+use Rattle.direct_words.proofs.Laws.Direct.{takes-as, taken-made, not-taken}
 use Rattle.calls.proofs.edits.dw_add_function.Statement.{statement}
 use Rattle.calls.proofs.edits.dw_add_function.Tie as tie
 

@@ -4,8 +4,7 @@ use borrow.Author.Needs.{needs}
 use Rattle.component.specs.declared.model_component.Component.{Component}
 use Rattle.model.specs.Edit.{addOperation}
 use Rattle.layout.specs.EditRows.{given as inputsGiven}
-use Rattle.storing.proofs.Laws.Words.{takes-as}
-use Rattle.storing.proofs.Laws.Direct.{taken-made, not-taken}
+use Rattle.direct_words.proofs.Laws.Direct.{takes-as, taken-made, not-taken}
 use Rattle.calls.proofs.edits.dw_add_operation.Statement.{statement}
 use Rattle.calls.proofs.edits.dw_add_operation.Tie as tie
 

@@ -2,8 +2,7 @@
 use mathlib.Core.Path.{ap}
 use borrow.Author.Needs.{needs}
 use Rattle.model.specs.Edit.{setParameter}
-use Rattle.storing.proofs.Laws.Words.{takes-as}
-use Rattle.storing.proofs.Laws.Direct.{taken-done, not-taken}
+use Rattle.direct_words.proofs.Laws.Direct.{takes-as, taken-done, not-taken}
 use Rattle.calls.proofs.edits.dw_set_parameter.Statement.{statement}
 use Rattle.calls.proofs.edits.dw_set_parameter.Tie as tie
 

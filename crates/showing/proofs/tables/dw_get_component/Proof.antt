@@ -4,7 +4,8 @@ use mathlib.Core.Path.{sym, ap, _∙_}
 use mathlib.Core.Option.{none, some}
 use borrow.Author.Tests.{not-true, not-false}
 use Rattle.held.specs.Reading.{componentRead}
-use Rattle.showing.proofs.Laws.Tables.{label-whole, component-refused, component-nothing, component-shown, component-7, component-long, component-found}
+use Rattle.opened.proofs.Laws.Said.{label-whole}
+use Rattle.showing.proofs.Laws.Tables.{component-refused, component-nothing, component-shown, component-7, component-long, component-found}
 use Rattle.showing.proofs.tables.dw_get_component.Statement.{statement}
 use Rattle.showing.proofs.tables.dw_get_component.Tie as tie
 

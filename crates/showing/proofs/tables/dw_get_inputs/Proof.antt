@@ -2,7 +2,8 @@
 use native.Mathlib.Omega.{arith}
 use borrow.Author.Needs.{needs}
 use borrow.Author.Tests.{not-true, not-false}
-use Rattle.showing.proofs.Laws.Tables.{label-whole, list-refused, list-nothing, list-shown, inputs-7, list-long, list-found, places-held, places-nothing}
+use Rattle.opened.proofs.Laws.Said.{label-whole}
+use Rattle.showing.proofs.Laws.Tables.{list-refused, list-nothing, list-shown, inputs-7, list-long, list-found, places-held, places-nothing}
 use Rattle.showing.proofs.tables.dw_get_inputs.Statement.{statement}
 use Rattle.showing.proofs.tables.dw_get_inputs.Tie as tie
 

@@ -1,0 +1,2 @@
+-- `Parameters`: what is read, and what a screen shows of a kind.
+pub mod Parameters

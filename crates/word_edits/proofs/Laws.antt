@@ -1,0 +1,2 @@
+-- `Words`: edits made of words.
+pub mod Words
