@@ -13,7 +13,8 @@ use Rattle.component.specs.Value.{compute}
 use Rattle.component.specs.declared.model_component.Component.{Component}
 use Rattle.model.specs.Form.{Number}
 use Rattle.model.specs.Walk.{clear, walkFrom}
-use Rattle.direct.specs.Standing.{componentRow, tagOf, Stands}
+use Rattle.finding.specs.Rows.{componentRow, tagOf}
+use Rattle.standing.specs.Standing.{Stands}
 
 abbrev pub inputOf : List Float → ℕ → Float
 inputOf vals i = cond (ltb i 64) (getD vals i nan) nan

@@ -1,4 +1,2 @@
-pub mod Names
-pub mod Standing
 pub mod Along
 pub mod Evaluate

@@ -1,6 +1,6 @@
 // The number of a component, worked along a line. Each step checks that its inputs are done.
-use crate::standing::component_row;
 use component::model_component::compute;
+use finding::component_in_row;
 use geometry::vec3f::Vec3;
 use layout::component_words::ComponentRead;
 ghost use mathlib.Core.Path.{_≡_};
@@ -49,7 +49,7 @@ fn value_at(s: &[u8], w: &[usize; 192], vals: &[f64; 64], x: usize, p: Vec3) -> 
     requires { ⌜ x < 64 ⌝ }
     ensures { λ r. ⌜ (r .ok ≡ true → Value (now (s .entry)) (now (w .entry)) (now (vals .entry)) x p (r .value)) ⌝ }
 {
-    let read = component_row(s, x);
+    let read = component_in_row(s, x);
     let ComponentRead::Component(c) = read else {
         return Working {
             ok: false,

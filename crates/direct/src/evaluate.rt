@@ -1,11 +1,10 @@
 // The form's number at a point, from the bytes.
 use crate::along::number_along;
 use crate::line::line_of;
-use crate::names::key;
-use crate::standing::component_named;
-use crate::standing::wired;
 use float::bits::bits_of;
 use geometry::vec3f::Vec3;
+use standing::component_of_tag;
+use standing::wired;
 ghost use mathlib.Core.Path.{_≡_};
 ghost use mathlib.Core.Bool.{true};
 ghost use Rattle.direct.specs.Evaluate.{EvaluatesIn};
@@ -27,7 +26,7 @@ pub fn evaluate_in(s: &[u8], target: &[u8], x: f64, y: f64, z: f64) -> Direct
     let keys = standing.keys;
     let w = standing.wires;
     let n = standing.n;
-    let t = component_named(s, &keys, n, key(target, 0), target);
+    let t = component_of_tag(s, &keys, n, target);
     if 64 <= t {
         return none;
     }

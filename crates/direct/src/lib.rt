@@ -3,5 +3,3 @@ mod along;
 pub mod clear;
 pub mod evaluate;
 mod line;
-mod names;
-pub mod standing;

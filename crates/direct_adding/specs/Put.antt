@@ -10,8 +10,7 @@ use Rattle.layout.specs.Words.{word}
 use Rattle.rows.specs.Rows.{placeIn}
 use Rattle.rows.specs.Written.{Wrote}
 use Rattle.model_bytes.specs.ModelBytes.{entryIn, listIn}
-use Rattle.direct.specs.Names.{componentAt, listAt}
-use Rattle.direct_rows.specs.Rows.{RowSought}
+use Rattle.finding.specs.Rows.{componentAt, listAt, RowSought}
 
 -- written one after the other: the row n of the components holds c under t, the default is d, and n + 1 components are counted
 pub record More (n : ℕ) (t : Tag) (c : Component) (d : Tag) (s u : List ℕ) : Type 0 where

@@ -1,6 +1,6 @@
 // The first free tag, among the components in the bytes of a model.
-use direct_rows::find::component_count;
-use direct_rows::find::component_row_of;
+use finding::component_count;
+use finding::component_row_of;
 use tag::Tag;
 use tag::at_most;
 use tag::numbered::Numbered;

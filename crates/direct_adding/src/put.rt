@@ -1,9 +1,9 @@
 // The rows of a new component written into the bytes of a model.
 use component::model_component::Component;
-use direct_rows::find::list_count;
-use direct_rows::find::list_row_of;
 use direct_rows::put::put_entry;
 use direct_rows::put::put_list;
+use finding::list_count;
+use finding::list_row_of;
 use model::implicit_model::InputList;
 use model::implicit_model::Place;
 use rows::writing::write_number;

@@ -8,7 +8,7 @@ use Rattle.tag.specs.Tags.{Tag}
 use Rattle.component.specs.declared.model_component.Component.{Component}
 use Rattle.layout.specs.Writing.{Kept}
 use Rattle.model_bytes.specs.ModelBytes.{entryRow}
-use Rattle.direct.specs.Names.{componentAt}
+use Rattle.finding.specs.Rows.{componentAt}
 
 -- the row i of the components holds what the row `last` held, where r is a yes; else nothing is changed
 pub record LastMoved (i last : ℕ) (s u : List ℕ) (r : Bool) : Type 0 where

@@ -2,15 +2,15 @@
 pub mod swapping;
 
 use crate::swapping::swap_places;
-use direct::standing::stands;
-use direct_rows::find::component_count;
-use direct_rows::find::component_in_row;
-use direct_rows::find::component_row_of;
 use direct_rows::put::put_entry;
+use finding::component_count;
+use finding::component_in_row;
+use finding::component_row_of;
 use layout::component_words::ComponentRead;
 use layout::words::read_text;
 use model::implicit_model::Place;
 use rows::writing::write_number;
+use standing::stands;
 ghost use mathlib.Core.Path.{_≡_};
 ghost use Prim.Native.Nat.{_<_};
 ghost use lib.ListN.{length};

@@ -1,5 +1,5 @@
 // Places that name a tag changed, in the bytes of a model: one place, one list, every list and the default.
-use direct_rows::find::list_count;
+use finding::list_count;
 use layout::words::read_word;
 use model::implicit_model::Place;
 use rows::writing::write_place;

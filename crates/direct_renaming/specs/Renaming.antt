@@ -9,9 +9,8 @@ use Rattle.tag.specs.Tags.{Tag}
 use Rattle.layout.specs.Words.{word, text}
 use Rattle.rows.specs.Rows.{tagIn}
 use Rattle.rows.specs.Written.{Wrote}
-use Rattle.direct.specs.Names.{componentAt, listAt}
-use Rattle.direct.specs.Standing.{Passing}
-use Rattle.direct_rows.specs.Rows.{RowSought}
+use Rattle.finding.specs.Rows.{componentAt, listAt, RowSought}
+use Rattle.standing.specs.Standing.{Passing}
 
 -- the bytes hold a model whose component t stands in the row r, and no component and no list of it has the tag u
 pub record Renamable (s : List ℕ) (t u : Tag) (r : ℕ) : Type 0 where

@@ -1,10 +1,10 @@
 // `rename_component` in the bytes of a model.
-use direct::standing::stands;
 use direct_removing::swapping::swap_places;
-use direct_rows::find::component_row_of;
-use direct_rows::find::list_row_of;
+use finding::component_row_of;
+use finding::list_row_of;
 use model::implicit_model::Place;
 use rows::writing::write_tag;
+use standing::stands;
 use tag::Tag;
 ghost use mathlib.Core.Path.{_≡_};
 ghost use Prim.Native.Nat.{_<_};

@@ -1,4 +1,4 @@
--- What is found and written in the rows of a model in bytes. Definitions only.
+-- What is written in the rows of a model in bytes. Definitions only.
 use Prim.Native.Nat.{ℕ, _+_, _*_, _≤_, _<_}
 use mathlib.Core.Path.{_≡_}
 use mathlib.Core.Logic.{_≢_}
@@ -14,12 +14,7 @@ use Rattle.layout.specs.Words.{text}
 use Rattle.rows.specs.Rows.{placeIn, placesOf}
 use Rattle.rows.specs.Written.{Wrote}
 use Rattle.model_bytes.specs.ModelBytes.{entryIn, listIn}
-use Rattle.direct.specs.Names.{componentAt, listAt}
-
--- the row of the tag t among the first n, which begin at `at`; `cap` where none of them has it
-pub record RowSought (s : List ℕ) (at : ℕ → ℕ) (n cap : ℕ) (t : Tag) (r : ℕ) : Type 0 where
-  pub found : r < cap → (r < n) × (text s (at r) ≡ t)
-  pub missing : cap ≤ r → (i : ℕ) → i < n → text s (at i) ≢ t
+use Rattle.finding.specs.Rows.{componentAt, listAt}
 
 -- the row i of the components of a model's bytes holds c under t; there is no other change, and none where there is no such row
 pub record PutEntry (i : ℕ) (t : Tag) (c : Component) (s u : List ℕ) : Type 0 where

@@ -1,3 +1,2 @@
-// The rows of a model in bytes, where they stand: found by tag, and written.
-pub mod find;
+// The rows of a model in bytes, written where they stand.
 pub mod put;

@@ -6,8 +6,8 @@ use mathlib.Core.List.{List}
 use Rattle.tag.specs.Tags.{Tag}
 use Rattle.model.specs.Model.{Place}
 use Rattle.layout.specs.Words.{word}
-use Rattle.direct.specs.Names.{listAt}
-use Rattle.direct_rows.specs.Rows.{RowSought, PutPlace}
+use Rattle.finding.specs.Rows.{listAt, RowSought}
+use Rattle.direct_rows.specs.Rows.{PutPlace}
 
 -- a row of the lists is the tag's, and its place p, which it has, became q
 pub record PlacedIn (tag : Tag) (p : ℕ) (q : Place) (s t : List ℕ) : Type 0 where

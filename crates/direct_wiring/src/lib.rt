@@ -1,12 +1,12 @@
 // `add_input` and `remove_input` in the bytes of a model. A yes is right; a no changes nothing, and says nothing of the edit.
 use direct::clear::is_clear;
-use direct::standing::stands;
-use direct::standing::wired;
-use direct_rows::find::component_row_of;
-use direct_rows::find::list_row_of;
 use direct_rows::put::put_place;
+use finding::component_row_of;
+use finding::list_row_of;
 use layout::words::read_word;
 use model::implicit_model::Place;
+use standing::stands;
+use standing::wired;
 ghost use Rattle.model.specs.Edit.{addInput, removeInput, done};
 ghost use Rattle.model.specs.View.{placeOf};
 ghost use Rattle.direct_rows.specs.Took.{Takes};

@@ -8,7 +8,8 @@ use Rattle.geometry.specs.declared.vec3f.Vec3.{Vec3}
 use Rattle.model.specs.Form.{Number, bits, Evaluated, number}
 use Rattle.model.proofs.Theorems.Compile.{compiles-short}
 use Rattle.model.proofs.Theorems.Worked.{number-compiles}
-use Rattle.direct.specs.Standing.{tagOf, Names, Stands}
+use Rattle.finding.specs.Rows.{tagOf}
+use Rattle.standing.specs.Standing.{Names, Stands}
 use Rattle.direct.specs.Evaluate.{EvaluatesIn}
 
 pub answered : {s : List ℕ} {n : ℕ} {w : List ℕ} {t : Tag} {r : ℕ} {x y z v : Float} {b : ℕ} (g : Stands s n w) → Names s n t r

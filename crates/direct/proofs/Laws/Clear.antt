@@ -18,11 +18,12 @@ use Rattle.model.specs.Form.{Wire, Reach, here, along}
 use Rattle.model.proofs.Laws.Valid.{some-some, none-some, good}
 use Rattle.model.proofs.Theorems.Walk.{walk-met, walk-gapped}
 use Rattle.held.proofs.Laws.Changes.{rows-apart}
-use Rattle.direct.specs.Standing.{tagOf, Stands}
+use Rattle.finding.specs.Rows.{tagOf}
+use Rattle.standing.specs.Standing.{Stands}
 use Rattle.direct.specs.Along.{Served, Ready}
 use Rattle.direct.proofs.Laws.Ready.{serves}
-use Rattle.direct.proofs.Laws.Rows.{built-length, built-getD}
-use Rattle.direct.proofs.Laws.Model.{parts, entry-shows}
+use Rattle.standing.proofs.Laws.Rows.{built-length, built-getD}
+use Rattle.standing.proofs.Laws.Model.{parts, entry-shows}
 
 -- ---- a set of rows, grown
 

@@ -17,7 +17,8 @@ use Rattle.component.specs.Value.{compute}
 use Rattle.model.specs.Model.{Place, Model, inputs}
 use Rattle.model.specs.Form.{value, Number, worked, Numbers, nothing, another}
 use Rattle.model.proofs.Laws.Valid.{some-some, none-some}
-use Rattle.direct.specs.Standing.{tagOf, Leads, Stands}
+use Rattle.finding.specs.Rows.{tagOf}
+use Rattle.standing.specs.Standing.{Leads, Stands}
 use Rattle.direct.specs.Along.{inputOf, Served, Ready, Value}
 use Rattle.direct.proofs.Laws.Ready.{served, serves}
 

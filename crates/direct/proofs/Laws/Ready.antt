@@ -7,7 +7,8 @@ use mathlib.Core.List.{List}
 use mathlib.Core.Option.{none, some}
 use lib.ListN.{length, getD}
 use Rattle.model.specs.Model.{Place, inputs}
-use Rattle.direct.specs.Standing.{tagOf, Stands}
+use Rattle.finding.specs.Rows.{tagOf}
+use Rattle.standing.specs.Standing.{Stands}
 use Rattle.direct.specs.Along.{Served, Ready}
 
 pub served : {w done : List ℕ} {n x : ℕ} → Ready w done n x → (q : ℕ) → q < 3 → Served done (getD w (x * 3 + q) 0)

@@ -24,7 +24,7 @@ use Rattle.adding.proofs.Laws.Operation.{few-inputs}
 use Rattle.adding.proofs.Laws.Component.{fits-not-long}
 use Rattle.layout.specs.Words.{word}
 use Rattle.rows.specs.Rows.{placesOf}
-use Rattle.direct.specs.Standing.{Passing}
+use Rattle.standing.specs.Standing.{Passing}
 use Rattle.direct_rows.specs.Took.{Takes}
 use Rattle.direct_rows.proofs.Laws.Took.{takes-yes}
 use Rattle.direct_adding.specs.Put.{More, RowFor, OperationPut}

@@ -21,8 +21,7 @@ use Rattle.model.proofs.Laws.Valid.{good}
 use Rattle.adding.proofs.Laws.Free.{Trying, tags-short, trying-start, free-once, free-none, free-long, free-found, trying-next}
 use Rattle.layout.specs.Words.{word}
 use Rattle.model_bytes.specs.ModelBytes.{modelIn}
-use Rattle.direct.specs.Names.{componentAt}
-use Rattle.direct_rows.specs.Rows.{RowSought}
+use Rattle.finding.specs.Rows.{componentAt, RowSought}
 use Rattle.direct_rows.proofs.Laws.Parts.{whole}
 use Rattle.direct_rows.proofs.Laws.Found.{components-length, component-found, component-missing, unheld}
 use Rattle.direct_adding.specs.Free.{FreeIn, FirstFreeIn}

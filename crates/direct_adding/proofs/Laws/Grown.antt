@@ -17,7 +17,7 @@ use Rattle.model.specs.Edit.{Edit, edit, made, listsFull, withComponent, withOp
 use Rattle.model.proofs.Laws.Valid.{Good, good}
 use Rattle.held.proofs.Laws.Changes.{becomes-refl, appended}
 use Rattle.layout.specs.Words.{word}
-use Rattle.direct.specs.Standing.{Passing}
+use Rattle.standing.specs.Standing.{Passing}
 use Rattle.direct_rows.specs.Took.{Took}
 use Rattle.direct_rows.proofs.Laws.Parts.{whole}
 use Rattle.direct_rows.proofs.Laws.Found.{components-length, lists-length, list-found}

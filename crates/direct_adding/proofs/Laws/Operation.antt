@@ -25,9 +25,8 @@ use Rattle.adding.proofs.Laws.Operation.{few-inputs}
 use Rattle.layout.specs.Words.{word}
 use Rattle.rows.specs.Rows.{placesOf}
 use Rattle.model_bytes.proofs.Laws.Sizes.{listed}
-use Rattle.direct.specs.Names.{componentAt}
-use Rattle.direct.specs.Standing.{Passing}
-use Rattle.direct_rows.specs.Rows.{RowSought}
+use Rattle.finding.specs.Rows.{componentAt, RowSought}
+use Rattle.standing.specs.Standing.{Passing}
 use Rattle.direct_rows.specs.Took.{Took, Takes}
 use Rattle.direct_rows.proofs.Laws.Parts.{whole}
 use Rattle.direct_rows.proofs.Laws.Found.{component-missing}

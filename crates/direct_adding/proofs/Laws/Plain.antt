@@ -11,9 +11,8 @@ use Rattle.component.specs.declared.model_component.Component.{Component}
 use Rattle.model.specs.Edit.{Edit, made}
 use Rattle.edit.proofs.Laws.Tests.{short, labelled}
 use Rattle.layout.specs.Words.{word}
-use Rattle.direct.specs.Names.{componentAt}
-use Rattle.direct.specs.Standing.{Passing}
-use Rattle.direct_rows.specs.Rows.{RowSought}
+use Rattle.finding.specs.Rows.{componentAt, RowSought}
+use Rattle.standing.specs.Standing.{Passing}
 use Rattle.direct_rows.specs.Took.{Took, Takes}
 use Rattle.direct_rows.proofs.Laws.Parts.{whole}
 use Rattle.direct_rows.proofs.Laws.Found.{component-missing}

@@ -22,7 +22,7 @@ use Rattle.rows.proofs.Laws.Writing.{both-kept, word-stays}
 use Rattle.model_bytes.specs.ModelBytes.{entryRow, listRow}
 use Rattle.model_bytes.specs.Calls.{Spares}
 use Rattle.model_bytes.proofs.Laws.Local.{entry-local, list-local}
-use Rattle.direct.proofs.Laws.Rows.{Built}
+use Rattle.standing.proofs.Laws.Rows.{Built}
 use Rattle.direct_rows.proofs.Laws.Table.{built-same, built-set, built-more}
 use Rattle.direct_rows.proofs.Laws.Parts.{Whole}
 use Rattle.direct_rows.proofs.Laws.Found.{components-length, lists-length, list-found, list-missing}

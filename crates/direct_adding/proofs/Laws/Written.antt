@@ -16,8 +16,8 @@ use Rattle.model.specs.View.{placeOf}
 use Rattle.layout.specs.Words.{word}
 use Rattle.rows.specs.Rows.{placeIn, placesOf}
 use Rattle.rows.specs.Written.{Wrote, Writes}
-use Rattle.direct.specs.Names.{listAt}
-use Rattle.direct_rows.specs.Rows.{RowSought, PutEntry, PutList}
+use Rattle.finding.specs.Rows.{listAt, RowSought}
+use Rattle.direct_rows.specs.Rows.{PutEntry, PutList}
 use Rattle.direct_adding.specs.Put.{More, RowPut, RowFor}
 
 -- a place that names a tag

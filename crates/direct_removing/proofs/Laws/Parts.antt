@@ -13,7 +13,7 @@ use Rattle.layout.specs.Words.{word}
 use Rattle.rows.specs.Rows.{blank, tagIn, componentIn, rowsIn, placeRow, placesIn}
 use Rattle.rows.proofs.Laws.Tests.{and-left, and-right}
 use Rattle.model_bytes.specs.ModelBytes.{entryIn, listIn}
-use Rattle.direct.proofs.Laws.Model.{both-some, cond-rows}
+use Rattle.standing.proofs.Laws.Model.{both-some, cond-rows}
 
 -- a row of the components
 pub record EntryParts (s : List ℕ) (at : ℕ) (x : Tag × Component) : Type 0 where

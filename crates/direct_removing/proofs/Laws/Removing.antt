@@ -31,11 +31,11 @@ use Rattle.rows.proofs.Laws.Local.{place-local}
 use Rattle.model_bytes.specs.ModelBytes.{entryRow, listRow}
 use Rattle.model_bytes.specs.Calls.{Spares}
 use Rattle.model_bytes.proofs.Laws.Local.{entry-local, list-local}
-use Rattle.direct.specs.Names.{componentAt}
-use Rattle.direct.specs.Standing.{componentRow, Passing}
-use Rattle.direct.proofs.Laws.Rows.{Built, built-getD}
-use Rattle.direct.proofs.Laws.Model.{entry-shows}
-use Rattle.direct_rows.specs.Rows.{RowSought, PutEntry}
+use Rattle.finding.specs.Rows.{componentAt, componentRow, RowSought}
+use Rattle.standing.specs.Standing.{Passing}
+use Rattle.standing.proofs.Laws.Rows.{Built, built-getD}
+use Rattle.standing.proofs.Laws.Model.{entry-shows}
+use Rattle.direct_rows.specs.Rows.{PutEntry}
 use Rattle.direct_rows.specs.Took.{Took}
 use Rattle.direct_rows.proofs.Laws.Table.{built-same, built-fewer}
 use Rattle.direct_rows.proofs.Laws.Parts.{Whole, whole}

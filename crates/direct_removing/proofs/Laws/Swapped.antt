@@ -14,7 +14,7 @@ use Rattle.layout.proofs.Kept.{Agree, word-same}
 use Rattle.model_bytes.specs.ModelBytes.{entryRow, listRow}
 use Rattle.model_bytes.specs.Calls.{Spares}
 use Rattle.model_bytes.proofs.Laws.Local.{entry-local}
-use Rattle.direct.proofs.Laws.Rows.{Built}
+use Rattle.standing.proofs.Laws.Rows.{Built}
 use Rattle.direct_rows.proofs.Laws.Table.{built-same, built-map, each-map}
 use Rattle.direct_rows.proofs.Laws.Parts.{Whole}
 use Rattle.direct_rows.proofs.Laws.Found.{lists-length, lists-counted}

@@ -22,9 +22,9 @@ use Rattle.rows.proofs.Laws.Reading.{text-long}
 use Rattle.model_bytes.specs.ModelBytes.{listRow}
 use Rattle.model_bytes.proofs.Laws.Reading.{list-is}
 use Rattle.model_bytes.proofs.Laws.Local.{list-local}
-use Rattle.direct.proofs.Laws.Loops.{all-more}
-use Rattle.direct.proofs.Laws.Keys.{place-named, place-unnamed}
-use Rattle.direct.proofs.Laws.Rows.{built}
+use Rattle.finding.proofs.Laws.Loops.{all-more}
+use Rattle.standing.proofs.Laws.Keys.{place-named, place-unnamed}
+use Rattle.standing.proofs.Laws.Rows.{built}
 use Rattle.direct_removing.specs.Swapping.{NamesTag, PlaceSwapped, Mapped, placeAt, PlacesSwapped, swapList, ListSwapped, RowsSwapped, ListsSwapped, Swapped}
 use Rattle.direct_rows.proofs.Laws.Table.{built-rows, built-map}
 use Rattle.direct_removing.proofs.Laws.Parts.{list-parts}

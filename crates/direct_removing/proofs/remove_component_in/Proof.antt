@@ -3,7 +3,7 @@ use native.Mathlib.Omega.{arith}
 use borrow.Author.Needs.{needs}
 use mathlib.Core.Path.{refl}
 use borrow.Author.Tests.{not-true, not-false}
-use Rattle.direct.specs.Standing.{Passing}
+use Rattle.standing.specs.Standing.{Passing}
 use Rattle.direct_rows.proofs.Laws.Parts.{whole}
 use Rattle.direct_rows.proofs.Laws.Took.{takes-yes, takes-no}
 use Rattle.direct_removing.proofs.Laws.Removing.{cleared, remove-done}

@@ -25,8 +25,7 @@ use Rattle.layout.specs.Words.{word}
 use Rattle.rows.specs.Rows.{tagIn}
 use Rattle.rows.specs.Written.{Writes}
 use Rattle.model_bytes.specs.Calls.{Spares}
-use Rattle.direct.specs.Names.{listAt}
-use Rattle.direct_rows.specs.Rows.{RowSought}
+use Rattle.finding.specs.Rows.{listAt, RowSought}
 use Rattle.direct_rows.specs.Took.{Took}
 use Rattle.direct_rows.proofs.Laws.Parts.{Whole, whole}
 use Rattle.direct_rows.proofs.Laws.Found.{components-length, lists-length, component-found, component-missing, list-found, list-missing, unheld}

@@ -19,7 +19,7 @@ use Rattle.model_bytes.specs.ModelBytes.{entryRow, listRow}
 use Rattle.model_bytes.specs.Calls.{Spares}
 use Rattle.model_bytes.proofs.Laws.Reading.{entry-is, list-by}
 use Rattle.model_bytes.proofs.Laws.Local.{entry-local, list-local}
-use Rattle.direct.proofs.Laws.Rows.{Built, built-getD}
+use Rattle.standing.proofs.Laws.Rows.{Built, built-getD}
 use Rattle.direct_rows.proofs.Laws.Table.{built-same, built-set}
 use Rattle.direct_rows.proofs.Laws.Parts.{Whole}
 use Rattle.direct_rows.proofs.Laws.Found.{components-length, lists-length}

@@ -15,10 +15,9 @@ use Rattle.model.proofs.Laws.Table.{held-true}
 use Rattle.model.proofs.Laws.Valid.{none-some}
 use Rattle.held.proofs.Laws.Changes.{find-at}
 use Rattle.layout.specs.Words.{word}
-use Rattle.direct.specs.Names.{componentAt, listAt}
-use Rattle.direct.proofs.Laws.Rows.{built-length, built-getD, built-none}
-use Rattle.direct.proofs.Laws.Model.{Entry, entry-shows, Row, list-shows}
-use Rattle.direct_rows.specs.Rows.{RowSought}
+use Rattle.finding.specs.Rows.{componentAt, listAt, RowSought}
+use Rattle.standing.proofs.Laws.Rows.{built-length, built-getD, built-none}
+use Rattle.standing.proofs.Laws.Model.{Entry, entry-shows, Row, list-shows}
 use Rattle.direct_rows.proofs.Laws.Parts.{Whole}
 
 -- what is not found is not held

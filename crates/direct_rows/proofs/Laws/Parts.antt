@@ -15,8 +15,8 @@ use Rattle.layout.specs.Words.{word}
 use Rattle.rows.specs.Rows.{placeIn, rowsIn}
 use Rattle.model_bytes.specs.ModelBytes.{headed, entryRow, listRow, joined, modelIn}
 use Rattle.model_bytes.proofs.Laws.Decoding.{headed-other, headed-is, none-headed}
-use Rattle.direct.proofs.Laws.Rows.{Built}
-use Rattle.direct.proofs.Laws.Model.{parts}
+use Rattle.standing.proofs.Laws.Rows.{Built}
+use Rattle.standing.proofs.Laws.Model.{parts}
 use Rattle.direct_rows.proofs.Laws.Table.{built-rows}
 
 -- all that modelIn reads of bytes that hold m

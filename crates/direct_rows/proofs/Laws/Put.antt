@@ -1,33 +1,21 @@
--- What the functions here answer: a row sought, and rows and places written. Assumes nothing.
+-- What the functions here answer: rows and places written. Assumes nothing.
 use Prim.Native.Nat.{ℕ, _+_, _*_, _≤_, _<_, min}
 use native.Mathlib.Omega.{arith}
-use mathlib.Core.Path.{_≡_, refl, sym, ap, subst, _∙_}
-use mathlib.Core.Logic.{_≢_}
-use mathlib.Core.Bool.{Bool, true, false, true≢false}
+use mathlib.Core.Path.{_≡_, refl, subst}
 use mathlib.Core.List.{List}
 use mathlib.Core.Option.{some}
 use lib.ListN.{length}
-use Rattle.tag.specs.Tags.{Tag, is}
+use Rattle.tag.specs.Tags.{Tag}
 use Rattle.tag.specs.declared.Tag.{Tag as Label}
 use Rattle.tag.specs.View.{bytesOf}
-use Rattle.tag.proofs.Laws.Is.{is-refl, is-true}
 use Rattle.component.specs.declared.model_component.Component.{Component}
 use Rattle.model.specs.declared.implicit_model.InputList.{InputList}
 use Rattle.model.specs.Model.{Place}
-use Rattle.layout.specs.Words.{word, text}
+use Rattle.layout.specs.Words.{word}
 use Rattle.rows.specs.Rows.{tagIn, placeIn, componentIn, placesIn, placesOf}
 use Rattle.rows.specs.Written.{Wrote, Writes}
 use Rattle.model_bytes.proofs.Laws.Writing.{entry-wrote, list-wrote}
-use Rattle.direct_rows.specs.Rows.{RowSought, PutEntry, PutList, PutPlace}
-
--- ---- a row sought
-
-module _ (s : List ℕ) (at : ℕ → ℕ) (i : ℕ) {t u : Tag} {b : Bool} (read : u ≡ text s (at i)) (test : b ≡ is u t) where
-  pub row-here : {n cap : ℕ} → i < n → i < cap → b ≡ true → RowSought s at n cap t i
-  row-here h l y = record { found = λ _. (h, sym read ∙ is-true u t (sym test ∙ y)); missing = λ k. absurd (let z : ⊥ = omega arith in z) }
-
-  pub row-other : b ≡ false → text s (at i) ≢ t
-  row-other y e = true≢false (sym (test ∙ ap (λ (v : Tag). is v t) (read ∙ e) ∙ is-refl t) ∙ y)
+use Rattle.direct_rows.specs.Rows.{PutEntry, PutList, PutPlace}
 
 -- ---- nothing written
 

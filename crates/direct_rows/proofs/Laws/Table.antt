@@ -12,7 +12,7 @@ use lib.Seq.{take-suc, take-all, getD-set-same, getD-set-other}
 use Rattle.tag.specs.Tags.{Tag}
 use Rattle.model.specs.Table.{Table, each}
 use Rattle.rows.specs.Rows.{append, rowsIn}
-use Rattle.direct.proofs.Laws.Rows.{Built, no-row, one-row, built-length, built-getD}
+use Rattle.standing.proofs.Laws.Rows.{Built, no-row, one-row, built-length, built-getD}
 
 module _ {A : Type 0} {row : ℕ → Option A} where
   pub built-rows : {n : ℕ} {xs : List A} → Built row n xs → rowsIn row n ≡ some xs

@@ -20,8 +20,8 @@ use Rattle.rows.proofs.Laws.Local.{place-local}
 use Rattle.model_bytes.specs.ModelBytes.{entryRow, listRow}
 use Rattle.model_bytes.specs.Calls.{Spares}
 use Rattle.model_bytes.proofs.Laws.Local.{entry-local, list-local}
-use Rattle.direct.specs.Names.{componentAt, listAt}
-use Rattle.direct.proofs.Laws.Rows.{Built}
+use Rattle.finding.specs.Rows.{componentAt, listAt}
+use Rattle.standing.proofs.Laws.Rows.{Built}
 use Rattle.direct_rows.proofs.Laws.Table.{built-same, built-set}
 use Rattle.direct_rows.proofs.Laws.Parts.{Whole}
 use Rattle.direct_rows.proofs.Laws.Found.{components-length, lists-length}

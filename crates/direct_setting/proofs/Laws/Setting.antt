@@ -25,11 +25,10 @@ use Rattle.rows.specs.Rows.{tagIn, componentIn}
 use Rattle.rows.specs.Written.{Wrote, Writes}
 use Rattle.rows.proofs.Laws.Local.{tag-local}
 use Rattle.model_bytes.specs.ModelBytes.{both, entryIn, entryRow}
-use Rattle.direct.specs.Names.{componentAt}
-use Rattle.direct.specs.Standing.{componentRow, Passing}
-use Rattle.direct.proofs.Laws.Rows.{built-getD}
-use Rattle.direct.proofs.Laws.Model.{both-some}
-use Rattle.direct_rows.specs.Rows.{RowSought}
+use Rattle.finding.specs.Rows.{componentAt, componentRow, RowSought}
+use Rattle.standing.specs.Standing.{Passing}
+use Rattle.standing.proofs.Laws.Rows.{built-getD}
+use Rattle.standing.proofs.Laws.Model.{both-some}
 use Rattle.direct_rows.specs.Took.{Took}
 use Rattle.direct_rows.proofs.Laws.Parts.{Whole, whole}
 use Rattle.direct_rows.proofs.Laws.Found.{entry-at, component-found, component-held, components-length}

@@ -23,10 +23,10 @@ use Rattle.rows.specs.Written.{Wrote}
 use Rattle.rows.proofs.Laws.Local.{blank-local, tag-local, place-local}
 use Rattle.rows.proofs.Laws.Tests.{and-left}
 use Rattle.model_bytes.specs.ModelBytes.{both, listIn, listRow, modelIn}
-use Rattle.direct.specs.Names.{listAt}
-use Rattle.direct.proofs.Laws.Rows.{built, built-getD}
-use Rattle.direct.proofs.Laws.Model.{both-some, cond-rows, Row}
-use Rattle.direct_rows.specs.Rows.{RowSought, PutPlace}
+use Rattle.finding.specs.Rows.{listAt, RowSought}
+use Rattle.standing.proofs.Laws.Rows.{built, built-getD}
+use Rattle.standing.proofs.Laws.Model.{both-some, cond-rows, Row}
+use Rattle.direct_rows.specs.Rows.{PutPlace}
 use Rattle.direct_rows.specs.Took.{Took}
 use Rattle.direct_rows.proofs.Laws.Table.{built-rows, built-set}
 use Rattle.direct_rows.proofs.Laws.Parts.{Whole, whole}

@@ -23,10 +23,9 @@ use Rattle.model.specs.Walk.{clear, walkFrom}
 use Rattle.model.proofs.Laws.Bool.{T→true}
 use Rattle.model.proofs.Laws.Valid.{found-held, good}
 use Rattle.layout.specs.Words.{word}
-use Rattle.direct.specs.Names.{componentAt}
-use Rattle.direct.specs.Standing.{tagOf, Passing, Stands}
+use Rattle.finding.specs.Rows.{componentAt, tagOf, RowSought}
+use Rattle.standing.specs.Standing.{Passing, Stands}
 use Rattle.direct.specs.Along.{Clear}
-use Rattle.direct_rows.specs.Rows.{RowSought}
 use Rattle.direct_rows.specs.Took.{Takes}
 use Rattle.direct_rows.proofs.Laws.Parts.{whole}
 use Rattle.direct_rows.proofs.Laws.Found.{component-held}

@@ -1,6 +1,6 @@
 -- `is_ready` meets its contract. Assumes nothing.
 use borrow.Author.Tests.{not-false}
-use Rattle.direct.proofs.Laws.Loops.{no-yes}
+use Rattle.finding.proofs.Laws.Loops.{no-yes}
 use native.Mathlib.Omega.{arith}
 use borrow.Author.Needs.{needs}
 use Rattle.direct.proofs.along.is_ready.Statement.{statement}

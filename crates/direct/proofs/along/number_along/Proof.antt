@@ -3,7 +3,7 @@ use Prim.Native.Nat.{_-_, _≤_}
 use mathlib.Core.Path.{_≡_, refl}
 use lib.ListN.{length, length-set}
 use borrow.Author.Tests.{not-false, eqb-true}
-use Rattle.direct.proofs.Laws.Loops.{no-yes}
+use Rattle.finding.proofs.Laws.Loops.{no-yes}
 use Rattle.direct.proofs.Laws.Numbers.{Done, none-done, done-more}
 use native.Mathlib.Omega.{arith}
 use Rattle.direct.proofs.along.number_along.Statement.{statement}

@@ -2,14 +2,15 @@
 use mathlib.Core.Path.{sym, ap, _∙_}
 use Rattle.component.specs.Value.{compute}
 use Rattle.layout.specs.Components.{componentRead}
-use Rattle.direct.proofs.Laws.Loops.{no-yes}
+use Rattle.finding.proofs.Laws.Loops.{no-yes}
 use Rattle.direct.proofs.Laws.Numbers.{three}
+use native.Mathlib.Omega.{arith}
 use borrow.Author.Needs.{needs}
 use Rattle.direct.proofs.along.value_at.Statement.{statement}
 use Rattle.direct.proofs.along.value_at.Tie as tie
 
-component-row-requires : tie.Need-component-row-requires
-component-row-requires c κs = search needs
+component-in-row-requires : tie.Need-component-in-row-requires
+component-in-row-requires c κs = search needs
 
 enum-known-read : tie.Need-enum-known-read
 enum-known-read c = search needs
@@ -66,7 +67,7 @@ compute-requires : tie.Need-compute-requires
 compute-requires c κs = search needs
 
 returns-2 : tie.Need-returns-2
-returns-2 c = λ e. record { component = c .before .before .before .before .before .before .before .before .read .given .0 .0; is = sym (c .before .before .before .before .before .before .before .before .before .before .component-row .ensures) ∙ ap componentRead (c .before .before .before .before .before .before .before .before .read .given .1); value = c .compute .ensures ∙ three (compute (c .before .before .before .before .before .before .before .before .read .given .0 .0) (c .before .before .before .before .before .before .before .before .before .before .before .before .args .p)) (c .before .before .before .before .before .input .ensures) (c .before .before .before .input2 .ensures) (c .before .input3 .ensures) }
+returns-2 c = λ e. record { component = c .before .before .before .before .before .before .before .before .read .given .0 .0; is = sym (c .before .before .before .before .before .before .before .before .before .before .component-in-row .ensures (omega arith)) ∙ ap componentRead (c .before .before .before .before .before .before .before .before .read .given .1); value = c .compute .ensures ∙ three (compute (c .before .before .before .before .before .before .before .before .read .given .0 .0) (c .before .before .before .before .before .before .before .before .before .before .before .before .args .p)) (c .before .before .before .before .before .input .ensures) (c .before .before .before .input2 .ensures) (c .before .input3 .ensures) }
 
 pub value-at-spec : {M : Type 1} → statement M
-value-at-spec = tie.close (tie.spec component-row-requires enum-known-read enum-told returns mul-input mul-input-2 element-copy-out-input input-requires mul-input-3 add-input mul-input-4 element-copy-out-input-2 input-requires-2 mul-input-5 add-input-2 mul-input-6 element-copy-out-input-3 input-requires-3 compute-requires returns-2)
+value-at-spec = tie.close (tie.spec component-in-row-requires enum-known-read enum-told returns mul-input mul-input-2 element-copy-out-input input-requires mul-input-3 add-input mul-input-4 element-copy-out-input-2 input-requires-2 mul-input-5 add-input-2 mul-input-6 element-copy-out-input-3 input-requires-3 compute-requires returns-2)

@@ -1,7 +1,7 @@
 -- `is_clear` meets its contract. Assumes nothing.
 use Prim.Native.Nat.{_-_, _≤_}
 use borrow.Author.Tests.{not-false, eqb-true}
-use Rattle.direct.proofs.Laws.Loops.{no-yes}
+use Rattle.finding.proofs.Laws.Loops.{no-yes}
 use Rattle.direct.proofs.Laws.Clear.{Closed, closed-none, closed-more, walk-is-clear}
 use native.Mathlib.Omega.{arith}
 use borrow.Author.Needs.{needs}

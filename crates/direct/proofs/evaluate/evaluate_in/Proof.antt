@@ -1,6 +1,6 @@
 -- `evaluate_in` meets its contract. Assumes nothing.
 use borrow.Author.Tests.{not-false}
-use Rattle.direct.proofs.Laws.Loops.{no-yes}
+use Rattle.finding.proofs.Laws.Loops.{no-yes}
 use Rattle.direct.proofs.Laws.Answer.{answered}
 use native.Mathlib.Omega.{arith}
 use borrow.Author.Needs.{needs}
@@ -13,11 +13,8 @@ wired-requires c κs = search needs
 returns : tie.Need-returns
 returns c = no-yes
 
-key-requires : tie.Need-key-requires
-key-requires c κs = search needs
-
-component-named-requires : tie.Need-component-named-requires
-component-named-requires c κs = (c .before .before .before .before .before .before .wired .ensures (not-false _ (c .before .before .before .before .if1 .left))) .few
+component-of-tag-requires : tie.Need-component-of-tag-requires
+component-of-tag-requires c κs = search needs
 
 returns-2 : tie.Need-returns-2
 returns-2 c = no-yes
@@ -26,13 +23,13 @@ line-of-requires : tie.Need-line-of-requires
 line-of-requires c κs = search needs
 
 number-along-requires : tie.Need-number-along-requires
-number-along-requires c κs = ((c .before .before .before .before .before .before .before .before .before .before .before .before .before .wired .ensures (not-false _ (c .before .before .before .before .before .before .before .before .before .before .before .if1 .left))) .few, (c .before .before .before .line-of .ensures, omega (arith, c .before .before .before .before .before .if2 .left)))
+number-along-requires c κs = ((c .before .before .before .before .before .before .before .before .before .before .before .before .wired .ensures (not-false _ (c .before .before .before .before .before .before .before .before .before .before .if1 .left))) .few, (c .before .before .before .line-of .ensures, omega (arith, c .before .before .before .before .before .if2 .left)))
 
 bits-of-requires : tie.Need-bits-of-requires
 bits-of-requires c κs = search needs
 
 returns-3 : tie.Need-returns-3
-returns-3 c = λ e. answered (c .before .before .before .before .before .before .before .before .before .before .before .before .before .before .before .wired .ensures (not-false _ (c .before .before .before .before .before .before .before .before .before .before .before .before .before .if1 .left))) (c .before .before .before .before .before .before .before .before .component-named .ensures (omega (arith, c .before .before .before .before .before .before .before .if2 .left))) (c .before .number-along .ensures e (c .before .before .before .before .before .before .before .before .before .before .before .before .before .before .before .wired .ensures (not-false _ (c .before .before .before .before .before .before .before .before .before .before .before .before .before .if1 .left)))) (c .bits-of .ensures)
+returns-3 c = λ e. answered (c .before .before .before .before .before .before .before .before .before .before .before .before .before .before .wired .ensures (not-false _ (c .before .before .before .before .before .before .before .before .before .before .before .before .if1 .left))) (c .before .before .before .before .before .before .before .before .component-of-tag .ensures (omega (arith, c .before .before .before .before .before .before .before .if2 .left))) (c .before .number-along .ensures e (c .before .before .before .before .before .before .before .before .before .before .before .before .before .before .wired .ensures (not-false _ (c .before .before .before .before .before .before .before .before .before .before .before .before .if1 .left)))) (c .bits-of .ensures)
 
 pub evaluate-in-spec : {M : Type 1} → statement M
-evaluate-in-spec = tie.close (tie.spec wired-requires returns key-requires component-named-requires returns-2 line-of-requires number-along-requires bits-of-requires returns-3)
+evaluate-in-spec = tie.close (tie.spec wired-requires returns component-of-tag-requires returns-2 line-of-requires number-along-requires bits-of-requires returns-3)

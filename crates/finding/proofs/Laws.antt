@@ -1,0 +1,3 @@
+-- `Loops`: one more row. `Rows`: what is found in the rows.
+pub mod Loops
+pub mod Rows
