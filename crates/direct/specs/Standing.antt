@@ -11,8 +11,8 @@ use Rattle.component.specs.Value.{inputCount}
 use Rattle.component.specs.declared.model_component.Component.{Component}
 use Rattle.model.specs.Model.{Place, Model, component, inputs, valid}
 use Rattle.layout.specs.Words.{word, text}
-use Rattle.layout.specs.Components.{componentFrom}
-use Rattle.layout.specs.declared.component_numbers.ComponentWords.{ComponentWords}
+use Rattle.component_layout.specs.Components.{componentFrom}
+use Rattle.component_layout.specs.declared.component_numbers.ComponentWords.{ComponentWords}
 use Rattle.rows.specs.Rows.{sixIn}
 use Rattle.model_bytes.specs.ModelBytes.{modelIn}
 use Rattle.direct.specs.Names.{componentAt, listAt}

@@ -5,8 +5,8 @@ use crate::names::key;
 use crate::names::list_keys;
 use crate::names::position_of;
 use component::model_component::input_count;
-use layout::component_words::ComponentRead;
-use layout::component_words::component_from;
+use component_layout::component_words::ComponentRead;
+use component_layout::component_words::component_from;
 use layout::words::read_text;
 use layout::words::read_word;
 use model_bytes::holds::holds;
@@ -15,7 +15,7 @@ ghost use mathlib.Core.Path.{_≡_};
 ghost use mathlib.Core.Bool.{true, false};
 ghost use Prim.Native.Nat.{_+_, _≤_, _<_};
 ghost use lib.ListN.{length};
-ghost use Rattle.layout.specs.Components.{componentRead};
+ghost use Rattle.component_layout.specs.Components.{componentRead};
 ghost use Rattle.direct.specs.Standing.{componentRow, Named, PlaceNamed, Listing, Listed, Owners, Filled, DefaultNamed, Wire, Wires, Stands, Passing};
 
 // The component of the first n whose tag is t, by its key k; 65 where the key does not tell.

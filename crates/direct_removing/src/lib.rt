@@ -2,12 +2,12 @@
 pub mod swapping;
 
 use crate::swapping::swap_places;
+use component_layout::component_words::ComponentRead;
 use direct::standing::stands;
 use direct_rows::find::component_count;
 use direct_rows::find::component_in_row;
 use direct_rows::find::component_row_of;
 use direct_rows::put::put_entry;
-use layout::component_words::ComponentRead;
 use layout::words::read_text;
 use model::implicit_model::Place;
 use rows::writing::write_number;

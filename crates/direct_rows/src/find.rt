@@ -1,6 +1,6 @@
 // Finding a component or a list by its tag in the bytes of a model.
-use layout::component_words::ComponentRead;
-use layout::component_words::component_from;
+use component_layout::component_words::ComponentRead;
+use component_layout::component_words::component_from;
 use layout::words::read_text;
 use layout::words::read_word;
 use tag::at_most;
@@ -8,7 +8,7 @@ use tag::bytes::same_bytes;
 ghost use mathlib.Core.Path.{_≡_};
 ghost use Prim.Native.Nat.{_<_, min};
 ghost use Rattle.layout.specs.Words.{word};
-ghost use Rattle.layout.specs.Components.{componentRead};
+ghost use Rattle.component_layout.specs.Components.{componentRead};
 ghost use Rattle.direct.specs.Names.{componentAt, listAt};
 ghost use Rattle.direct.specs.Standing.{componentRow};
 ghost use Rattle.direct_rows.specs.Rows.{RowSought};

@@ -1,10 +1,10 @@
 // `set_parameter` in the bytes of a model. A yes is right; a no changes nothing, and says nothing of the edit.
 use component::model_component::Setting;
 use component::parameter::Data;
+use component_layout::component_words::ComponentRead;
 use direct::standing::stands;
 use direct_rows::find::component_in_row;
 use direct_rows::find::component_row_of;
-use layout::component_words::ComponentRead;
 use rows::writing::write_component;
 ghost use Rattle.model.specs.Edit.{setParameter, done};
 ghost use Rattle.direct_rows.specs.Took.{Takes};

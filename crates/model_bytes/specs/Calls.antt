@@ -9,7 +9,7 @@ use lib.ListN.{length, getD}
 use Rattle.model.specs.declared.implicit_model.Model.{Model as Record}
 use Rattle.model.specs.Model.{Model, Same, valid, new}
 use Rattle.model.specs.View.{view, fits}
-use Rattle.layout.specs.EditRows.{isSome}
+use Rattle.layout.specs.Some.{isSome}
 use Rattle.model_bytes.specs.declared.decode.Decoded.{Decoded}
 use Rattle.model_bytes.specs.ModelBytes.{modelIn}
 

@@ -14,7 +14,7 @@ use Rattle.tag.proofs.Laws.Is.{is-true}
 use Rattle.component.specs.Value.{inputCount}
 use Rattle.component.specs.declared.model_component.Component.{Component}
 use Rattle.layout.specs.Words.{word, text}
-use Rattle.layout.specs.Components.{componentFrom}
+use Rattle.component_layout.specs.Components.{componentFrom}
 use Rattle.direct.specs.Names.{listAt, Sought}
 use Rattle.direct.specs.Standing.{componentRow, tagOf, Names, Named, PlaceNamed, Listing, Listed, Owner, Owners, Filled, Wire}
 use Rattle.direct.proofs.Laws.Loops.{all-more, each-more}

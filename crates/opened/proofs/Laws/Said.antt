@@ -7,7 +7,7 @@ use mathlib.Core.Option.{Option, none, some}
 use Rattle.model.specs.declared.implicit_model.Model.{Model as Record}
 use Rattle.model.specs.Model.{Model, valid}
 use Rattle.model.specs.View.{view, fits, passes}
-use Rattle.layout.specs.EditRows.{isSome}
+use Rattle.layout.specs.Some.{isSome}
 use Rattle.rows.proofs.Laws.Tests.{apart}
 use Rattle.model_bytes.specs.declared.decode.Decoded.{Decoded}
 use Rattle.model_bytes.specs.ModelBytes.{modelIn}

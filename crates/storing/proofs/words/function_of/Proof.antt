@@ -1,7 +1,7 @@
 -- `function_of` meets its contract. Assumes nothing.
 use borrow.Author.Needs.{needs}
 use mathlib.Core.Path.{sym, ap, _∙_}
-use Rattle.layout.specs.Components.{componentRead}
+use Rattle.component_layout.specs.Components.{componentRead}
 use Rattle.storing.proofs.Laws.Words.{function-some, function-none}
 use Rattle.storing.proofs.words.function_of.Statement.{statement}
 use Rattle.storing.proofs.words.function_of.Tie as tie
