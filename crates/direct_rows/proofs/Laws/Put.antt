@@ -17,7 +17,7 @@ use Rattle.model.specs.Model.{Place}
 use Rattle.layout.specs.Words.{word, text}
 use Rattle.rows.specs.Rows.{tagIn, placeIn, componentIn, placesIn, placesOf}
 use Rattle.rows.specs.Written.{Wrote, Writes}
-use Rattle.model_bytes.proofs.Laws.Writing.{entry-wrote, list-wrote}
+use Rattle.model_writing.proofs.Laws.Writing.{entry-wrote, list-wrote}
 use Rattle.direct_rows.specs.Rows.{RowSought, PutEntry, PutList, PutPlace}
 
 -- ---- a row sought

@@ -12,7 +12,7 @@ use Rattle.rows.proofs.Laws.Tests.{apart}
 use Rattle.model_bytes.specs.declared.decode.Decoded.{Decoded}
 use Rattle.model_bytes.specs.ModelBytes.{modelIn}
 use Rattle.model_bytes.specs.Calls.{Decodes}
-use Rattle.model_bytes.proofs.Theorems.RoundTrip.{decoded-holds}
+use Rattle.model_bytes.proofs.Theorems.Decoded.{decoded-holds}
 use Rattle.report.specs.Report.{Report}
 use Rattle.opened.specs.Said.{letPass, heldIn, Says, Opens}
 
