@@ -20,7 +20,7 @@ ghost use lib.ListN.{length};
 ghost use Rattle.model.specs.View.{rows};
 ghost use Rattle.graph.specs.Compile.{tagAt};
 ghost use Rattle.graph.specs.Evaluate.{pointOf, Workable};
-ghost use Rattle.layout.specs.Components.{number};
+ghost use Rattle.component_layout.specs.Components.{number};
 ghost use Rattle.rows.specs.Rows.{rowsIn};
 ghost use Rattle.rows.specs.Written.{Wrote};
 ghost use Rattle.opened.specs.Said.{heldIn, Says};

@@ -8,8 +8,8 @@ use word_edits::data_of;
 use word_edits::function_of;
 use word_edits::operation_of;
 ghost use Rattle.model.specs.Edit.{addOperation, addConstant, addFunction, addInput, removeInput, removeComponent, renameComponent, setParameter};
-ghost use Rattle.layout.specs.Components.{number};
-ghost use Rattle.layout.specs.EditRows.{given as inputsGiven};
+ghost use Rattle.component_layout.specs.Components.{number};
+ghost use Rattle.edit_rows.specs.EditRows.{given as inputsGiven};
 ghost use Rattle.word_edits.specs.Edits.{functionOf, componentEdit, operationOf, dataOf};
 ghost use Rattle.storing.specs.Called.{Called};
 

@@ -1,8 +1,8 @@
 // The number of a component, worked along a line. Each step checks that its inputs are done.
 use component::model_component::compute;
+use component_layout::component_words::ComponentRead;
 use finding::component_in_row;
 use geometry::vec3f::Vec3;
-use layout::component_words::ComponentRead;
 ghost use mathlib.Core.Path.{_≡_};
 ghost use mathlib.Core.Bool.{true};
 ghost use Prim.Native.Nat.{_≤_, _<_};

@@ -2,11 +2,11 @@
 pub mod swapping;
 
 use crate::swapping::swap_places;
+use component_layout::component_words::ComponentRead;
 use direct_rows::put::put_entry;
 use finding::component_count;
 use finding::component_in_row;
 use finding::component_row_of;
-use layout::component_words::ComponentRead;
 use layout::words::read_text;
 use model::implicit_model::Place;
 use rows::writing::write_number;

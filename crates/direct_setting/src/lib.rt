@@ -1,9 +1,9 @@
 // `set_parameter` in the bytes of a model. A yes is right; a no changes nothing, and says nothing of the edit.
 use component::model_component::Setting;
 use component::parameter::Data;
+use component_layout::component_words::ComponentRead;
 use finding::component_in_row;
 use finding::component_row_of;
-use layout::component_words::ComponentRead;
 use rows::writing::write_component;
 use standing::stands;
 ghost use Rattle.model.specs.Edit.{setParameter, done};

@@ -1,13 +1,13 @@
 // Edits made in the bytes whose component or inputs come in words. Words of no kind are left to the edit of the record, which refuses them.
 use component::model_component::Component;
+use component_layout::component_words::ComponentRead;
+use component_layout::component_words::component_from;
 use direct_adding::Added;
 use direct_adding::add_component_in;
 use direct_adding::add_operation_in;
-use layout::component_words::ComponentRead;
-use layout::component_words::component_from;
 ghost use Rattle.tag.specs.View.{bytesOf};
 ghost use Rattle.model.specs.Edit.{addOperation, made};
-ghost use Rattle.layout.specs.EditRows.{given};
+ghost use Rattle.edit_rows.specs.EditRows.{given};
 ghost use Rattle.direct_rows.specs.Took.{Takes};
 ghost use Rattle.word_edits.specs.Edits.{componentEdit};
 

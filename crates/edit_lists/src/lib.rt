@@ -7,8 +7,8 @@ use storing::store::tell_7;
 use storing::store::tell_done;
 use storing::store::tell_reply;
 ghost use Rattle.graph.specs.Evaluate.{pointOf};
-ghost use Rattle.layout.specs.Components.{number};
-ghost use Rattle.layout.specs.EditRows.{editsOf};
+ghost use Rattle.component_layout.specs.Components.{number};
+ghost use Rattle.edit_rows.specs.EditRows.{editsOf};
 ghost use Rattle.edit_lists.specs.Lists.{Begun, AskedAfter};
 
 // Writes a new model; a slice of another length is 7 and is left alone.

@@ -7,8 +7,8 @@ use mathlib.Core.Option.{Option}
 use Rattle.tag.specs.Tags.{Tag}
 use Rattle.component.specs.declared.model_component.Component.{Component}
 use Rattle.layout.specs.Words.{text}
-use Rattle.layout.specs.Components.{componentFrom}
-use Rattle.layout.specs.declared.component_numbers.ComponentWords.{ComponentWords}
+use Rattle.component_layout.specs.Components.{componentFrom}
+use Rattle.component_layout.specs.declared.component_numbers.ComponentWords.{ComponentWords}
 use Rattle.rows.specs.Rows.{sixIn}
 
 -- where a row of each table begins

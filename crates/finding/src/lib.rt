@@ -1,6 +1,6 @@
 // The rows of a model in bytes: a component or a list found by its tag, and the component in a row.
-use layout::component_words::ComponentRead;
-use layout::component_words::component_from;
+use component_layout::component_words::ComponentRead;
+use component_layout::component_words::component_from;
 use layout::words::read_text;
 use layout::words::read_word;
 use tag::at_most;
@@ -8,7 +8,7 @@ use tag::bytes::same_bytes;
 ghost use mathlib.Core.Path.{_≡_};
 ghost use Prim.Native.Nat.{_<_, min};
 ghost use Rattle.layout.specs.Words.{word};
-ghost use Rattle.layout.specs.Components.{componentRead};
+ghost use Rattle.component_layout.specs.Components.{componentRead};
 ghost use Rattle.finding.specs.Rows.{componentAt, listAt, componentRow, RowSought};
 
 // How many components the bytes count.

@@ -1,6 +1,4 @@
--- Laws of the layouts; `Put` and `Kept`: of what is written. `Numbers`, `Examples`: components as words.
+-- `Laws`: of words and strings. `Put` and `Kept`: of what is written.
 pub mod Laws
 pub mod Put
 pub mod Kept
-mod Numbers
-pub mod Examples

@@ -1,5 +1,3 @@
 pub mod Words
-pub mod Components
-pub mod EditRows
 pub mod Writing
-pub mod Numbers
+pub mod Some

@@ -1,6 +1,3 @@
-// The byte layouts that the host and the core share (docs/LAYOUT.md).
-pub mod component_numbers;
-pub mod component_words;
-pub mod edit_row;
+// Words and strings in the bytes that the host and the core share (docs/LAYOUT.md).
 pub mod words;
 pub mod writing;

@@ -1,3 +1,3 @@
--- `RoundTrip`: encoding and decoding, both ways. `Examples`: the bytes of a new model.
-pub mod RoundTrip
+-- `Decoded`: what decodes is what the bytes hold. `Examples`: the bytes of a new model.
+pub mod Decoded
 pub mod Examples

@@ -1,15 +1,13 @@
--- What decoding and encoding answer. Definitions only.
+-- What decoding answers, and bytes that hold a model. Definitions only.
 use Prim.Native.Nat.{ℕ, _+_, _*_, _≤_, _<_}
 use mathlib.Core.Path.{_≡_}
-use mathlib.Core.Bool.{Bool, true, false, _&&_}
+use mathlib.Core.Bool.{true}
 use mathlib.Core.List.{List}
 use mathlib.Core.Option.{some, Option·getD}
-use lib.Dec.{eqb}
 use lib.ListN.{length, getD}
-use Rattle.model.specs.declared.implicit_model.Model.{Model as Record}
 use Rattle.model.specs.Model.{Model, Same, valid, new}
 use Rattle.model.specs.View.{view, fits}
-use Rattle.layout.specs.EditRows.{isSome}
+use Rattle.layout.specs.Some.{isSome}
 use Rattle.model_bytes.specs.declared.decode.Decoded.{Decoded}
 use Rattle.model_bytes.specs.ModelBytes.{modelIn}
 
@@ -32,10 +30,3 @@ pub record Holds (m : Model) (s t : List ℕ) : Type 0 where
   pub same : Same m model
   pub passing : valid model ≡ true
   pub rows : Spares (length (model .components)) (length (model .lists)) s t
-
--- encoded into s, which is t afterwards: where there is room and the record fits, t holds what the record holds, and rows past its counts are as they were; else nothing is changed
-pub record Encodes (m : Record) (s t : List ℕ) (r : Bool) : Type 0 where
-  pub answer : r ≡ (eqb (length s) 27200 && fits m)
-  pub holds : r ≡ true → modelIn t ≡ some (view m)
-  pub spares : Spares (m .«component_count») (m .«list_count») s t
-  pub kept : r ≡ false → t ≡ s

@@ -1,14 +1,10 @@
--- What the helpers of decoding and encoding answer. Definitions only.
+-- What the helpers of decoding answer. Definitions only.
 use Prim.Native.Nat.{ℕ}
 use mathlib.Core.Path.{_≡_}
 use mathlib.Core.Bool.{Bool, true, cond}
 use mathlib.Core.List.{List}
 use mathlib.Core.Option.{Option, none, some}
-use Rattle.model.specs.declared.implicit_model.Place.{Place as PlaceRecord}
-use Rattle.model.specs.View.{rows, every, placeOf}
-use Rattle.layout.specs.Words.{word}
-use Rattle.layout.specs.Writing.{Kept}
-use Rattle.rows.specs.Rows.{placeIn}
+use Rattle.model.specs.View.{rows, every}
 
 -- what was read: a record r, which seen through g is what stands there and is within its sizes; or that nothing stands there
 pub record Read {A B : Type 0} (g : A → B) (sized : A → Bool) (there : Option B) (ok : Bool) (r : A) : Type 0 where
@@ -19,11 +15,3 @@ pub record Read {A B : Type 0} (g : A → B) (sized : A → Bool) (there : Optio
 pub record Filled {A B : Type 0} (g : A → B) (sized : A → Bool) (there : Option (List B)) (n : ℕ) (ok : Bool) (table : List A) : Type 0 where
   pub holds : cond ok (some (rows g n table)) none ≡ there
   pub sizes : ok ≡ true → every (rows sized n table) ≡ true
-
--- the header, written into the first 64 bytes: n components, k lists and the default d
-pub record Header (n k : ℕ) (d : PlaceRecord) (s t : List ℕ) : Type 0 where
-  pub kept : Kept s t 0 64
-  pub version : word t 0 ≡ 1
-  pub components : word t 8 ≡ n
-  pub lists : word t 16 ≡ k
-  pub default : placeIn t 24 ≡ some (placeOf d)

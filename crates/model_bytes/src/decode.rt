@@ -1,9 +1,9 @@
 // Reading a model from bytes: what stands at a place, then rows, then the model.
 use component::model_component::Component;
-use layout::component_numbers::ComponentWords;
-use layout::component_numbers::words_of;
-use layout::component_words::ComponentRead;
-use layout::component_words::component_from;
+use component_layout::component_numbers::ComponentWords;
+use component_layout::component_numbers::words_of;
+use component_layout::component_words::ComponentRead;
+use component_layout::component_words::component_from;
 use layout::words::read_word;
 use model::implicit_model::ComponentEntry;
 use model::implicit_model::InputList;
@@ -17,7 +17,7 @@ ghost use lib.ListN.{length, take, drop};
 ghost use Rattle.tag.specs.View.{bytesOf, tagFits};
 ghost use Rattle.model.specs.View.{placeOf, placeFits, componentOf, entryFits, listOf, listFits};
 ghost use Rattle.held.specs.Reading.{New};
-ghost use Rattle.layout.specs.Components.{componentRead};
+ghost use Rattle.component_layout.specs.Components.{componentRead};
 ghost use Rattle.rows.specs.Rows.{blank, textIn, tagIn, placeIn, sixIn, sameWords, componentIn, rowsIn, placeRow};
 ghost use Rattle.model_bytes.specs.ModelBytes.{entryIn, listIn, headed, entryRow, listRow};
 ghost use Rattle.model_bytes.specs.Steps.{Read, Filled};

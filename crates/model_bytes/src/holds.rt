@@ -2,7 +2,7 @@
 use crate::decode::is_blank;
 use crate::decode::is_headed;
 use crate::decode::read_component;
-use layout::component_words::ComponentRead;
+use component_layout::component_words::ComponentRead;
 use layout::words::read_word;
 ghost use mathlib.Core.Path.{_≡_};
 ghost use mathlib.Core.Bool.{true};

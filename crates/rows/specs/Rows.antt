@@ -11,9 +11,9 @@ use Rattle.model.specs.declared.implicit_model.InputList.{InputList}
 use Rattle.model.specs.Model.{Place}
 use Rattle.model.specs.View.{rows, placeOf}
 use Rattle.layout.specs.Words.{word}
-use Rattle.layout.specs.Components.{componentFrom}
-use Rattle.layout.specs.declared.component_numbers.ComponentWords.{ComponentWords}
-use Rattle.layout.specs.Numbers.{wordsOf}
+use Rattle.component_layout.specs.Components.{componentFrom}
+use Rattle.component_layout.specs.declared.component_numbers.ComponentWords.{ComponentWords}
+use Rattle.component_layout.specs.Numbers.{wordsOf}
 
 -- ---- what stands at byte `at` of s
 

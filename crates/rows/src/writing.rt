@@ -1,8 +1,8 @@
 // Writing at a place; where there is no room, nothing is changed. A length or a count past its size counts as the size.
 use component::model_component::Component;
+use component_layout::component_numbers::ComponentWords;
+use component_layout::component_numbers::words_of;
 use held::find::places_held;
-use layout::component_numbers::ComponentWords;
-use layout::component_numbers::words_of;
 use layout::writing::write_word;
 use model::implicit_model::InputList;
 use model::implicit_model::Place;

@@ -15,8 +15,8 @@ use Rattle.component.specs.declared.model_component.Reading.{Reading}
 use Rattle.component.specs.declared.model_component.Reading.the-variants.{Read, Nothing}
 use Rattle.component.specs.declared.model_component.Component.{Component}
 use Rattle.model.specs.Model.{Model, component}
-use Rattle.layout.specs.Components.{componentFrom}
-use Rattle.layout.specs.Numbers.{bitsOf}
+use Rattle.component_layout.specs.Components.{componentFrom}
+use Rattle.component_layout.specs.Numbers.{bitsOf}
 use Rattle.rows.specs.Rows.{threeIn}
 use Rattle.rows.specs.Written.{Writes}
 use Rattle.report.specs.Report.{Report}

@@ -14,7 +14,7 @@ use Rattle.model.specs.Answer.{answerOf}
 use Rattle.edit.specs.declared.Edited.{Edited}
 use Rattle.edit.specs.Meets.{Meets}
 use Rattle.layout.specs.Words.{text}
-use Rattle.layout.specs.EditRows.{editAt, editsOf}
+use Rattle.edit_rows.specs.EditRows.{editAt, editsOf}
 use Rattle.steady.specs.Lists.{carried, after, newest}
 
 -- the newest tag: the target that came in, or a string of the list of edits; no string stands at 0

@@ -1,11 +1,11 @@
 // One row of a list of edits, run.
 use crate::newest::place_after;
 use component::model_component::Component;
+use component_layout::component_words::ComponentRead;
+use component_layout::component_words::DataRead;
 use edit::Edited;
-use layout::component_words::ComponentRead;
-use layout::component_words::DataRead;
-use layout::edit_row::component_at;
-use layout::edit_row::data_at;
+use edit_rows::edit_row::component_at;
+use edit_rows::edit_row::data_at;
 use layout::words::read_text;
 use layout::words::read_word;
 use model::implicit_model::Model;
@@ -17,7 +17,7 @@ ghost use lib.ListN.{length};
 ghost use Rattle.model.specs.Edit.{addOperation};
 ghost use Rattle.edit.specs.Meets.{Meets};
 ghost use Rattle.layout.specs.Words.{word, text};
-ghost use Rattle.layout.specs.EditRows.{given};
+ghost use Rattle.edit_rows.specs.EditRows.{given};
 ghost use Rattle.steady.specs.Steps.{tagAt, Runs, Stepped};
 
 // A model, and the place of the target's newest tag.

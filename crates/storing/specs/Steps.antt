@@ -10,7 +10,7 @@ use Rattle.model.specs.Edit.{Answer, refused}
 use Rattle.model.specs.Form.{Reply}
 use Rattle.model.specs.Answer.{answerOf}
 use Rattle.edit.specs.declared.Edited.{Edited}
-use Rattle.model_bytes.specs.Calls.{Encodes}
+use Rattle.model_writing.specs.Calls.{Encodes}
 use Rattle.report.specs.Report.{Report, reported, ofAnswer, ofReply}
 
 -- the report x was written over `out`, and its code returned

@@ -5,7 +5,7 @@ use graph::evaluate::Evaluation;
 use model::implicit_model::Model;
 use model::model_error::Answer;
 use model::model_error::Ending;
-use model_bytes::encode::encode;
+use model_writing::encode::encode;
 use report::number_of;
 use report::write_report;
 use tag::Tag;

@@ -9,7 +9,7 @@ use Rattle.component.specs.declared.model_component.Component.the-variants.{Con
 use Rattle.component.specs.declared.parameter.Data.{Data}
 use Rattle.component.specs.declared.parameter.Data.the-variants.{Boolean}
 use Rattle.model.specs.Edit.{Edit, addFunction, addComponent}
-use Rattle.layout.specs.Components.{componentFrom, dataFrom}
+use Rattle.component_layout.specs.Components.{componentFrom, dataFrom}
 
 -- the component of `add_function`: no kind is Multiply, which is no function
 unfoldable pub functionOf : ℕ → ℕ → ℕ → ℕ → ℕ → ℕ → Component

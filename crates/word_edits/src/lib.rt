@@ -1,16 +1,16 @@
 // Edits whose component, inputs or data come in words. Words of no kind are an edit that is refused with 4.
 use component::model_component::Component;
 use component::parameter::Data;
+use component_layout::component_words::ComponentRead;
+use component_layout::component_words::DataRead;
+use component_layout::component_words::component_from;
+use component_layout::component_words::data_from;
 use edit::Edited;
-use layout::component_words::ComponentRead;
-use layout::component_words::DataRead;
-use layout::component_words::component_from;
-use layout::component_words::data_from;
 use model::implicit_model::Model;
 ghost use mathlib.Core.Path.{_≡_};
 ghost use Rattle.model.specs.Edit.{addOperation};
 ghost use Rattle.edit.specs.Meets.{Meets};
-ghost use Rattle.layout.specs.EditRows.{given};
+ghost use Rattle.edit_rows.specs.EditRows.{given};
 ghost use Rattle.word_edits.specs.Edits.{functionOf, componentEdit, operationOf, dataOf};
 
 // A function, or a component that is none.

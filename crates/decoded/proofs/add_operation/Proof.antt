@@ -3,7 +3,7 @@ use borrow.Author.Needs.{needs}
 use mathlib.Core.Path.{ap}
 use Rattle.component.specs.declared.model_component.Component.{Component}
 use Rattle.model.specs.Edit.{addOperation}
-use Rattle.layout.specs.EditRows.{given}
+use Rattle.edit_rows.specs.EditRows.{given}
 use Rattle.storing.proofs.Laws.Stored.{called}
 use Rattle.word_edits.proofs.Laws.Words.{meets-as}
 use Rattle.decoded.proofs.add_operation.Statement.{statement}

@@ -24,7 +24,7 @@ use Rattle.adding.proofs.Laws.Inputs.{count-is, asked-are, asked-short}
 use Rattle.adding.proofs.Laws.Operation.{few-inputs}
 use Rattle.layout.specs.Words.{word}
 use Rattle.rows.specs.Rows.{placesOf}
-use Rattle.model_bytes.proofs.Laws.Sizes.{listed}
+use Rattle.model_writing.proofs.Laws.Sizes.{listed}
 use Rattle.finding.specs.Rows.{componentAt, RowSought}
 use Rattle.standing.specs.Standing.{Passing}
 use Rattle.direct_rows.specs.Took.{Took, Takes}

@@ -4,7 +4,7 @@ use mathlib.Core.Path.{sym, ap, subst, _∙_}
 use lib.ListN.{take}
 use Rattle.tag.specs.Tags.{Tag}
 use Rattle.tag.specs.View.{Made}
-use Rattle.layout.specs.Components.{componentRead}
+use Rattle.component_layout.specs.Components.{componentRead}
 use Rattle.direct_removing.proofs.Laws.Removing.{moved-itself, moved-nothing, moved-over}
 use Rattle.direct_removing.proofs.move_last.Statement.{statement}
 use Rattle.direct_removing.proofs.move_last.Tie as tie

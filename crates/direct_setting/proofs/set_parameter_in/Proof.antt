@@ -3,7 +3,7 @@ use native.Mathlib.Omega.{arith}
 use borrow.Author.Needs.{needs}
 use mathlib.Core.Path.{refl, sym, ap, _∙_}
 use borrow.Author.Tests.{not-false}
-use Rattle.layout.specs.Components.{componentRead}
+use Rattle.component_layout.specs.Components.{componentRead}
 use Rattle.direct_rows.proofs.Laws.Took.{takes-yes, takes-no}
 use Rattle.direct_setting.proofs.Laws.Setting.{parameter-set}
 use Rattle.direct_setting.proofs.set_parameter_in.Statement.{statement}

@@ -1,7 +1,7 @@
 -- `add_component_in_of` meets its contract. Assumes nothing.
 use mathlib.Core.Path.{refl, sym, ap, _∙_}
 use borrow.Author.Needs.{needs}
-use Rattle.layout.specs.Components.{componentRead}
+use Rattle.component_layout.specs.Components.{componentRead}
 use Rattle.direct_rows.proofs.Laws.Took.{takes-no}
 use Rattle.word_edits.proofs.Laws.Words.{component-some}
 use Rattle.direct_words.proofs.Laws.Direct.{takes-as}

@@ -20,7 +20,7 @@ use Rattle.graph.specs.Evaluate.{replyOf, pointOf}
 use Rattle.model_bytes.specs.declared.decode.Decoded.{Decoded}
 use Rattle.model_bytes.specs.ModelBytes.{modelIn}
 use Rattle.model_bytes.specs.Calls.{Decodes}
-use Rattle.model_bytes.proofs.Theorems.RoundTrip.{decodes-held, decoded-holds}
+use Rattle.model_bytes.proofs.Theorems.Decoded.{decodes-held, decoded-holds}
 use Rattle.report.specs.Report.{ofReply}
 use Rattle.steady.specs.declared.AfterList.{AfterList}
 use Rattle.steady.specs.Lists.{after, newest, Sparing}

@@ -8,7 +8,7 @@ use mathlib.Core.List.{List}
 use Rattle.tag.specs.Tags.{Tag, is}
 use Rattle.tag.proofs.Laws.Is.{is-refl, is-true}
 use Rattle.layout.specs.Words.{word, text}
-use Rattle.layout.specs.Components.{componentFrom}
+use Rattle.component_layout.specs.Components.{componentFrom}
 use Rattle.finding.specs.Rows.{componentRow, RowSought}
 
 -- ---- a row sought

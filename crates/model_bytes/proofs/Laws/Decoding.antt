@@ -14,7 +14,7 @@ use Rattle.model.specs.Model.{Place, Model, new, valid}
 use Rattle.model.specs.View.{placeOf, componentOf, componentsOf, listOf, listsOf, view, rows, every, placeFits, entryFits, listFits, fits, passes}
 use Rattle.held.specs.Reading.{New}
 use Rattle.layout.specs.Words.{word}
-use Rattle.layout.specs.EditRows.{isSome}
+use Rattle.layout.specs.Some.{isSome}
 use Rattle.model_bytes.specs.declared.decode.Decoded.{Decoded}
 use Rattle.rows.specs.Rows.{placeIn, rowsIn}
 use Rattle.model_bytes.specs.ModelBytes.{headed, entryRow, listRow, joined, modelIn}

@@ -21,9 +21,9 @@ use Rattle.model.specs.Model.{Place}
 use Rattle.model.specs.View.{rows, every, placeOf, placeFits, listFits}
 use Rattle.held.proofs.Laws.Rows.{rows-more}
 use Rattle.layout.specs.Words.{word}
-use Rattle.layout.specs.Components.{componentFrom}
-use Rattle.layout.specs.declared.component_numbers.ComponentWords.{ComponentWords}
-use Rattle.layout.specs.Numbers.{wordsOf}
+use Rattle.component_layout.specs.Components.{componentFrom}
+use Rattle.component_layout.specs.declared.component_numbers.ComponentWords.{ComponentWords}
+use Rattle.component_layout.specs.Numbers.{wordsOf}
 use Rattle.rows.specs.Rows.{blank, textIn, tagIn, placeFrom, placeIn, sixIn, sameWords, spelled, componentOfWords, componentIn, append, rowsIn, placeRow, placesIn}
 use Rattle.rows.proofs.Laws.Tests.{apart, and-true, and-false, every-append}
 use Rattle.rows.proofs.Laws.Reading.{blank-more, text-clean, rows-append, places-many, places-is}

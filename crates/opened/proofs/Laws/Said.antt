@@ -12,12 +12,12 @@ use Rattle.tag.specs.View.{bytesOf, Made}
 use Rattle.model.specs.declared.implicit_model.Model.{Model as Record}
 use Rattle.model.specs.Model.{Model, valid}
 use Rattle.model.specs.View.{view, fits, passes}
-use Rattle.layout.specs.EditRows.{isSome}
+use Rattle.layout.specs.Some.{isSome}
 use Rattle.rows.proofs.Laws.Tests.{apart}
 use Rattle.model_bytes.specs.declared.decode.Decoded.{Decoded}
 use Rattle.model_bytes.specs.ModelBytes.{modelIn}
 use Rattle.model_bytes.specs.Calls.{Decodes}
-use Rattle.model_bytes.proofs.Theorems.RoundTrip.{decoded-holds}
+use Rattle.model_bytes.proofs.Theorems.Decoded.{decoded-holds}
 use Rattle.report.specs.Report.{Report}
 use Rattle.opened.specs.Said.{letPass, heldIn, Says, Opens}
 

@@ -20,8 +20,8 @@ use Rattle.held.specs.Search.{Live}
 use Rattle.held.proofs.Laws.Rows.{no-place, rows-less, rows-more}
 use Rattle.layout.specs.Words.{word}
 use Rattle.layout.specs.Writing.{Kept, putWord}
-use Rattle.layout.specs.declared.component_numbers.ComponentWords.{ComponentWords}
-use Rattle.layout.specs.Numbers.{Worded}
+use Rattle.component_layout.specs.declared.component_numbers.ComponentWords.{ComponentWords}
+use Rattle.component_layout.specs.Numbers.{Worded}
 use Rattle.layout.proofs.Put.{word-kept, word-back}
 use Rattle.layout.proofs.Kept.{kept-none, kept-then, Agree, agree-below, word-same, bytes-same}
 use Rattle.rows.specs.Rows.{blank, textIn, tagIn, placeFrom, placeIn, sixIn, sameWords, spelled, componentOfWords, componentIn, rowsIn, placeRow, placesIn, placesOf, threeIn}

@@ -23,7 +23,7 @@ use Rattle.component.specs.declared.model_component.Component.{Component}
 use Rattle.component.specs.declared.model_component.Component.the-variants.{Constant, Sphere, Torus, Multiply, Add, Subtract, Divide, Lerp, VariableLerp, Remap, BooleanUnion, BooleanIntersection, BooleanDifference, Offset, Thickness}
 use Rattle.model.specs.Model.{component}
 use Rattle.model.specs.View.{view}
-use Rattle.layout.specs.Numbers.{bitsOf}
+use Rattle.component_layout.specs.Numbers.{bitsOf}
 use Rattle.rows.specs.Rows.{threeIn}
 use Rattle.rows.specs.Written.{Writes}
 use Rattle.model_bytes.specs.declared.decode.Decoded.{Decoded}

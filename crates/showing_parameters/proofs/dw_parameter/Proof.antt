@@ -1,7 +1,7 @@
 -- `dw_parameter` meets its contract. Assumes nothing.
 use borrow.Author.Needs.{needs}
 use mathlib.Core.Path.{sym, ap, _∙_}
-use Rattle.layout.specs.Components.{componentRead}
+use Rattle.component_layout.specs.Components.{componentRead}
 use Rattle.showing_parameters.proofs.Laws.Parameters.{parameter-none, parameter-named}
 use Rattle.showing_parameters.proofs.dw_parameter.Statement.{statement}
 use Rattle.showing_parameters.proofs.dw_parameter.Tie as tie

@@ -2,7 +2,7 @@
 use native.Mathlib.Omega.{arith}
 use borrow.Author.Needs.{needs}
 use mathlib.Core.Path.{sym, ap, _∙_}
-use Rattle.layout.specs.Components.{componentRead}
+use Rattle.component_layout.specs.Components.{componentRead}
 use Rattle.showing_parameters.proofs.Laws.Parameters.{inputs-few, kind-none, kind-named}
 use Rattle.showing_parameters.proofs.dw_type_name.Statement.{statement}
 use Rattle.showing_parameters.proofs.dw_type_name.Tie as tie

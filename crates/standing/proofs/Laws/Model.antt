@@ -14,8 +14,8 @@ use Rattle.model.specs.Table.{all, Table}
 use Rattle.model.specs.Model.{Place, Model, shortPlace}
 use Rattle.model.proofs.Laws.Valid.{some-some, none-some}
 use Rattle.layout.specs.Words.{word}
-use Rattle.layout.specs.Numbers.{wordsOf}
-use Rattle.layout.specs.declared.component_numbers.ComponentWords.{ComponentWords}
+use Rattle.component_layout.specs.Numbers.{wordsOf}
+use Rattle.component_layout.specs.declared.component_numbers.ComponentWords.{ComponentWords}
 use Rattle.rows.specs.Rows.{blank, tagIn, placeIn, sixIn, sameWords, spelled, componentOfWords, componentIn, rowsIn, placeRow, placesIn}
 use Rattle.model_bytes.specs.ModelBytes.{both, entryIn, listIn, headed, entryRow, listRow, joined, modelIn}
 use Rattle.model_bytes.specs.Holds.{Held}

@@ -1,6 +1,6 @@
 -- `is_listed` meets its contract. Assumes nothing.
 use mathlib.Core.Path.{sym, ap, _∙_}
-use Rattle.layout.specs.Components.{componentRead}
+use Rattle.component_layout.specs.Components.{componentRead}
 use Rattle.finding.proofs.Laws.Loops.{no-yes}
 use Rattle.standing.proofs.Laws.Checks.{listed-none, listed-count}
 use native.Mathlib.Omega.{arith}

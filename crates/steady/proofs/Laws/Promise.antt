@@ -16,7 +16,8 @@ use Rattle.model.specs.declared.model_error.ModelError.the-variants.{InvalidMod
 use Rattle.graph.specs.declared.evaluate.Evaluating.the-variants.{Refused as Handed}
 use Rattle.graph.specs.declared.evaluate.Evaluation.{Evaluation}
 use Rattle.graph.specs.Evaluate.{EvaluatesAs, replyOf}
-use Rattle.layout.specs.EditRows.{isSome, editsOf}
+use Rattle.layout.specs.Some.{isSome}
+use Rattle.edit_rows.specs.EditRows.{editsOf}
 use Rattle.steady.specs.Steadied.{Promised, Refused, Steadied, After}
 use Rattle.steady.specs.Steps.{Listed}
 use Rattle.steady.proofs.Laws.Along.{at-end}

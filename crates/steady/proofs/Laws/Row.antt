@@ -20,9 +20,9 @@ use Rattle.model.specs.Steady.{relabel}
 use Rattle.edit.specs.declared.Edited.{Edited}
 use Rattle.edit.specs.Meets.{Meets}
 use Rattle.layout.specs.Words.{word, text}
-use Rattle.layout.specs.Components.{number}
-use Rattle.layout.specs.EditRows.{textsFit, componentAt, dataAt, tagsGiven, given, nine, editAt, ahead, rowsAt, editsOf}
-use Rattle.layout.proofs.Laws.{rows-next}
+use Rattle.component_layout.specs.Components.{number}
+use Rattle.edit_rows.specs.EditRows.{textsFit, componentAt, dataAt, tagsGiven, given, nine, editAt, ahead, rowsAt, editsOf}
+use Rattle.edit_rows.proofs.Laws.{rows-next}
 use Rattle.adding.specs.Inputs.{tagsGiven as handedOver, inputsOf}
 use Rattle.steady.specs.Lists.{carried, afterRename}
 use Rattle.steady.specs.Steps.{tagAt, Runs, Step, Stepped, At, Listed}

@@ -20,11 +20,11 @@ use Rattle.held.proofs.Laws.Standing.{passes-valid, standing}
 use Rattle.edit.specs.declared.Edited.{Edited}
 use Rattle.edit.specs.Meets.{defined, Meets}
 use Rattle.layout.specs.Words.{word}
-use Rattle.layout.specs.EditRows.{isSome}
+use Rattle.layout.specs.Some.{isSome}
 use Rattle.model_bytes.specs.declared.decode.Decoded.{Decoded}
 use Rattle.model_bytes.specs.ModelBytes.{headed, modelIn}
 use Rattle.model_bytes.specs.Calls.{Decodes, Spares, Holds}
-use Rattle.model_bytes.proofs.Theorems.RoundTrip.{decodes-held, decoded-holds}
+use Rattle.model_bytes.proofs.Theorems.Decoded.{decodes-held, decoded-holds}
 use Rattle.report.specs.Report.{reported, ofAnswer}
 use Rattle.storing.specs.Called.{answerIn, Called}
 use Rattle.storing.specs.Steps.{Told, Put, Written, Stored}

@@ -13,8 +13,8 @@ use Rattle.model.specs.declared.implicit_model.Model.{Model as Record}
 use Rattle.model.specs.Edit.{Edit, addOperation, addFunction, addComponent}
 use Rattle.edit.specs.declared.Edited.{Edited}
 use Rattle.edit.specs.Meets.{Meets}
-use Rattle.layout.specs.Components.{componentFrom, dataFrom}
-use Rattle.layout.specs.EditRows.{given}
+use Rattle.component_layout.specs.Components.{componentFrom, dataFrom}
+use Rattle.edit_rows.specs.EditRows.{given}
 use Rattle.adding.specs.Inputs.{inputsOf}
 use Rattle.steady.proofs.Laws.Row.{given-none, given-some}
 use Rattle.word_edits.specs.Edits.{functionOf, operationOf, dataOf, addedAs, componentEdit}

@@ -1,7 +1,7 @@
 -- `add_component_of` meets its contract. Assumes nothing.
 use borrow.Author.Needs.{needs}
 use mathlib.Core.Path.{sym, ap, _∙_}
-use Rattle.layout.specs.Components.{componentRead}
+use Rattle.component_layout.specs.Components.{componentRead}
 use Rattle.word_edits.proofs.Laws.Words.{component-some, component-none, meets-as}
 use Rattle.word_edits.proofs.add_component_of.Statement.{statement}
 use Rattle.word_edits.proofs.add_component_of.Tie as tie

@@ -1,7 +1,7 @@
 -- `data_of` meets its contract. Assumes nothing.
 use borrow.Author.Needs.{needs}
 use mathlib.Core.Path.{sym, ap, _∙_}
-use Rattle.layout.specs.Components.{dataRead}
+use Rattle.component_layout.specs.Components.{dataRead}
 use Rattle.word_edits.proofs.Laws.Words.{data-some, data-none}
 use Rattle.word_edits.proofs.data_of.Statement.{statement}
 use Rattle.word_edits.proofs.data_of.Tie as tie

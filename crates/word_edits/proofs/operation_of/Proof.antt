@@ -1,7 +1,7 @@
 -- `operation_of` meets its contract. Assumes nothing.
 use borrow.Author.Needs.{needs}
 use mathlib.Core.Path.{sym, ap, _∙_}
-use Rattle.layout.specs.Components.{componentRead}
+use Rattle.component_layout.specs.Components.{componentRead}
 use Rattle.word_edits.proofs.Laws.Words.{operation-some, operation-none}
 use Rattle.word_edits.proofs.operation_of.Statement.{statement}
 use Rattle.word_edits.proofs.operation_of.Tie as tie

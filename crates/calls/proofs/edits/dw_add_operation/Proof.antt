@@ -3,7 +3,7 @@ use mathlib.Core.Path.{ap}
 use borrow.Author.Needs.{needs}
 use Rattle.component.specs.declared.model_component.Component.{Component}
 use Rattle.model.specs.Edit.{addOperation}
-use Rattle.layout.specs.EditRows.{given as inputsGiven}
+use Rattle.edit_rows.specs.EditRows.{given as inputsGiven}
 use Rattle.direct_words.proofs.Laws.Direct.{takes-as, taken-made, not-taken}
 use Rattle.calls.proofs.edits.dw_add_operation.Statement.{statement}
 use Rattle.calls.proofs.edits.dw_add_operation.Tie as tie

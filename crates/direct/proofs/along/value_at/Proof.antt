@@ -1,7 +1,7 @@
 -- `value_at` meets its contract. Assumes nothing.
 use mathlib.Core.Path.{sym, ap, _∙_}
 use Rattle.component.specs.Value.{compute}
-use Rattle.layout.specs.Components.{componentRead}
+use Rattle.component_layout.specs.Components.{componentRead}
 use Rattle.finding.proofs.Laws.Loops.{no-yes}
 use Rattle.direct.proofs.Laws.Numbers.{three}
 use native.Mathlib.Omega.{arith}

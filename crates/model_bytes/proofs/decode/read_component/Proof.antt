@@ -3,7 +3,7 @@ use mathlib.Core.Path.{sym, ap, _∙_}
 use mathlib.Core.Bool.{Bool, cond}
 use mathlib.Core.Option.{none, some}
 use borrow.Author.Needs.{needs}
-use Rattle.layout.specs.Components.{componentRead}
+use Rattle.component_layout.specs.Components.{componentRead}
 use Rattle.rows.specs.Rows.{sameWords}
 use Rattle.model_bytes.proofs.Laws.Reading.{component-none, component-own}
 use Rattle.model_bytes.proofs.decode.read_component.Statement.{statement}

@@ -3,7 +3,7 @@ use mathlib.Core.Path.{refl, sym, ap, _∙_}
 use borrow.Author.Needs.{needs}
 use borrow.Author.Tests.{not-true, not-false}
 use Rattle.held.proofs.Laws.Rows.{no-entry}
-use Rattle.layout.specs.Components.{componentRead}
+use Rattle.component_layout.specs.Components.{componentRead}
 use Rattle.model_bytes.proofs.Laws.Reading.{read-none, read-some, missing, found, entry-no-tag, entry-no-component, entry-is}
 use Rattle.model_bytes.proofs.decode.read_entry.Statement.{statement}
 use Rattle.model_bytes.proofs.decode.read_entry.Tie as tie

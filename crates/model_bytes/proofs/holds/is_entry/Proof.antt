@@ -1,7 +1,7 @@
 -- `is_entry` meets its contract. Assumes nothing.
 use mathlib.Core.Path.{sym, ap, _∙_}
 use borrow.Author.Tests.{not-false}
-use Rattle.layout.specs.Components.{componentRead}
+use Rattle.component_layout.specs.Components.{componentRead}
 use Rattle.model_bytes.proofs.Laws.Holding.{not-held, entry-held}
 use borrow.Author.Needs.{needs}
 use Rattle.model_bytes.proofs.holds.is_entry.Statement.{statement}

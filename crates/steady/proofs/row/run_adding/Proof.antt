@@ -1,7 +1,7 @@
 -- `run_adding` meets its contract. Assumes nothing.
 use borrow.Author.Needs.{needs}
 use mathlib.Core.Path.{sym, ap, _∙_}
-use Rattle.layout.specs.Components.{componentRead}
+use Rattle.component_layout.specs.Components.{componentRead}
 use Rattle.steady.proofs.Laws.Row.{runs-operation, runs-function, runs-component, no-component, is-four}
 use Rattle.steady.proofs.row.run_adding.Statement.{statement}
 use Rattle.steady.proofs.row.run_adding.Tie as tie

@@ -4,8 +4,8 @@ use borrow.Author.Needs.{needs}
 use Prim.Native.Nat.{_≤_}
 use mathlib.Core.Path.{sym, ap, _∙_}
 use mathlib.Core.Logic.{inl, inr}
-use Rattle.layout.specs.Components.{number}
-use Rattle.layout.proofs.Laws.{missed}
+use Rattle.component_layout.specs.Components.{number}
+use Rattle.component_layout.proofs.Laws.{missed}
 use Rattle.steady.proofs.Laws.Row.{runs-constant, runs-input, runs-unwire, runs-remove, no-edit}
 use Rattle.steady.proofs.row.run_other.Statement.{statement}
 use Rattle.steady.proofs.row.run_other.Tie as tie

@@ -1,7 +1,7 @@
 -- `run_setting` meets its contract. Assumes nothing.
 use borrow.Author.Needs.{needs}
 use mathlib.Core.Path.{sym, ap, _∙_}
-use Rattle.layout.specs.Components.{dataRead}
+use Rattle.component_layout.specs.Components.{dataRead}
 use Rattle.steady.proofs.Laws.Row.{runs-parameter, no-data}
 use Rattle.steady.proofs.row.run_setting.Statement.{statement}
 use Rattle.steady.proofs.row.run_setting.Tie as tie

@@ -1,0 +1,2 @@
+-- `Laws`: of rows and of lists of them.
+pub mod Laws

@@ -1,0 +1,2 @@
+-- `RoundTrip`: encoding and decoding, both ways.
+pub mod RoundTrip
