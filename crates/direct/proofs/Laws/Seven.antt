@@ -19,7 +19,7 @@ use Rattle.model.proofs.Laws.Bool.{true→T, and-T}
 use Rattle.model.proofs.Laws.Valid.{found-held, Good, good-valid}
 use Rattle.layout.specs.Words.{word, text}
 use Rattle.model_bytes.specs.ModelBytes.{entryRow, listRow, modelIn}
-use Rattle.model_bytes.specs.Holds.{Held}
+use Rattle.model_holding.specs.Holds.{Held}
 use Rattle.direct.specs.Names.{componentAt, listAt, Keys, Apart}
 use Rattle.direct.specs.Standing.{componentRow, tagOf, PlaceNames, Owner, Owners, Filled, DefaultNamed, Wire, Wires, Leads, Stands}
 use Rattle.direct.proofs.Laws.Keys.{Tagged, tags-apart, place-named, place-unnamed}
