@@ -1,5 +1,4 @@
--- `Reading`: what is read at a place, and rows. `Decoding`: the model. `Local`: what is read of a row depends on its own bytes alone. `Holding`: what stands in bytes, by its checks.
+-- `Reading`: what is read at a place, and rows. `Decoding`: the model. `Local`: what is read of a row depends on its own bytes alone.
 pub mod Reading
 pub mod Decoding
 pub mod Local
-pub mod Holding

@@ -1,4 +1,3 @@
 pub mod ModelBytes
 pub mod Calls
 pub mod Steps
-pub mod Holds

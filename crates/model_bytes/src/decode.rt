@@ -1,24 +1,22 @@
 // Reading a model from bytes: what stands at a place, then rows, then the model.
 use component::model_component::Component;
-use component_layout::component_numbers::ComponentWords;
-use component_layout::component_numbers::words_of;
 use component_layout::component_words::ComponentRead;
-use component_layout::component_words::component_from;
 use layout::words::read_word;
 use model::implicit_model::ComponentEntry;
 use model::implicit_model::InputList;
 use model::implicit_model::Model;
 use model::implicit_model::Place;
+use row_reading::is_blank;
+use row_reading::read_component;
 use tag::Tag;
 ghost use mathlib.Core.Path.{_≡_};
 ghost use mathlib.Core.Bool.{false};
-ghost use Prim.Native.Nat.{_+_, _-_, _≤_};
+ghost use Prim.Native.Nat.{_+_, _≤_};
 ghost use lib.ListN.{length, take, drop};
 ghost use Rattle.tag.specs.View.{bytesOf, tagFits};
 ghost use Rattle.model.specs.View.{placeOf, placeFits, componentOf, entryFits, listOf, listFits};
 ghost use Rattle.held.specs.Reading.{New};
-ghost use Rattle.component_layout.specs.Components.{componentRead};
-ghost use Rattle.rows.specs.Rows.{blank, textIn, tagIn, placeIn, sixIn, sameWords, componentIn, rowsIn, placeRow};
+ghost use Rattle.rows.specs.Rows.{textIn, tagIn, placeIn, rowsIn, placeRow};
 ghost use Rattle.model_bytes.specs.ModelBytes.{entryIn, listIn, headed, entryRow, listRow};
 ghost use Rattle.model_bytes.specs.Steps.{Read, Filled};
 ghost use Rattle.model_bytes.specs.Calls.{Decodes};
@@ -63,21 +61,6 @@ pub struct ComponentsRead {
 pub struct ListsRead {
     pub table: [InputList; 128],
     pub ok: bool,
-}
-
-// Whether the bytes from a place up to another are 0.
-pub(crate) fn is_blank(s: &[u8], start: usize, end: usize) -> bool
-    requires { ⌜ (start ≤ end) × (end ≤ length (now s)) ⌝ }
-    ensures { λ r. ⌜ r ≡ blank (now (s .entry)) start (end - start) ⌝ }
-{
-    let mut i: usize = start;
-    while i < end {
-        if s[i] != 0 {
-            return false;
-        }
-        i += 1;
-    }
-    true
 }
 
 fn copy_32(s: &[u8], at: usize) -> [u8; 32]
@@ -157,65 +140,6 @@ fn read_place(s: &[u8], at: usize) -> PlaceRead
         ok: read.ok,
         place: place,
     }
-}
-
-// The six words at a place.
-fn read_six(s: &[u8], at: usize) -> ComponentWords
-    requires { ⌜ at + 48 ≤ length (now s) ⌝ }
-    ensures { λ r. ⌜ r ≡ sixIn (now (s .entry)) at ⌝ }
-{
-    let kind = read_word(s, at);
-    let a = read_word(s, at + 8);
-    let b = read_word(s, at + 16);
-    let c = read_word(s, at + 24);
-    let d = read_word(s, at + 32);
-    let e = read_word(s, at + 40);
-    ComponentWords {
-        kind: kind,
-        a: a,
-        b: b,
-        c: c,
-        d: d,
-        e: e,
-    }
-}
-
-fn same_words(v: ComponentWords, w: ComponentWords) -> bool
-    ensures { λ r. ⌜ r ≡ sameWords v w ⌝ }
-{
-    if v.kind != w.kind {
-        return false;
-    }
-    if v.a != w.a {
-        return false;
-    }
-    if v.b != w.b {
-        return false;
-    }
-    if v.c != w.c {
-        return false;
-    }
-    if v.d != w.d {
-        return false;
-    }
-    v.e == w.e
-}
-
-// The component at a place, where the words are the component's own: a NaN has the one NaN's bits, and unused words are 0.
-pub(crate) fn read_component(s: &[u8], at: usize) -> ComponentRead
-    requires { ⌜ at + 48 ≤ length (now s) ⌝ }
-    ensures { λ r. ⌜ componentRead r ≡ componentIn (now (s .entry)) at ⌝ }
-{
-    let w = read_six(s, at);
-    let read = component_from(w.kind, w.a, w.b, w.c, w.d, w.e);
-    let ComponentRead::Component(c) = read else {
-        return ComponentRead::NoComponent;
-    };
-    let own = words_of(c);
-    if same_words(own, w) {
-        return ComponentRead::Component(c);
-    }
-    ComponentRead::NoComponent
 }
 
 fn no_entry() -> EntryRead
@@ -392,7 +316,7 @@ fn read_lists(s: &[u8], n: usize) -> ListsRead
 }
 
 // Whether the length, the version and the counts are a model's.
-pub(crate) fn is_headed(s: &[u8]) -> bool
+pub fn is_headed(s: &[u8]) -> bool
     ensures { λ r. ⌜ r ≡ headed (now (s .entry)) ⌝ }
 {
     if s.len() != 27200 {

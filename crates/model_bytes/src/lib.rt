@@ -1,3 +1,2 @@
 // A model read from bytes that the host lends (docs/LAYOUT.md, "A model").
 pub mod decode;
-pub mod holds;

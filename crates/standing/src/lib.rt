@@ -11,7 +11,7 @@ use component_layout::component_words::ComponentRead;
 use finding::component_in_row;
 use layout::words::read_text;
 use layout::words::read_word;
-use model_bytes::holds::holds;
+use model_holding::holds::holds;
 use tag::bytes::same_bytes;
 ghost use mathlib.Core.Path.{_≡_};
 ghost use mathlib.Core.Bool.{true, false};

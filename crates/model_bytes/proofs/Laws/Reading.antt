@@ -2,16 +2,15 @@
 use Prim.Native.Nat.{ℕ, zero, suc, _+_, _*_, _-_, _≤_, _<_}
 use mathlib.Core.Path.{_≡_, refl, sym, ap, subst, _∙_}
 use mathlib.Core.Logic.{_⊎_, inl, inr}
-use mathlib.Core.Bool.{Bool, true, false, _&&_, cond}
+use mathlib.Core.Bool.{Bool, true, false, cond}
 use mathlib.Core.List.{List, [], _∷_, _++_}
 use mathlib.Core.Option.{Option, none, some, Option·map}
 use native.Mathlib.Nat.{eq-or-lt-of-le, le-of-suc-le-suc}
 use native.Mathlib.Numerals.{add-one}
 use native.Mathlib.Omega.{arith}
-use lib.Dec.{eqb}
 use lib.ListN.{length, getD, take, drop, set, length-drop}
 use lib.Seq.{take-suc, take-suc-set, take-take, getD-drop}
-use borrow.Author.Tests.{le-leb, ne-eqb}
+use borrow.Author.Tests.{le-leb}
 use Rattle.tag.specs.declared.Tag.{Tag as Label}
 use Rattle.tag.specs.Tags.{Tag}
 use Rattle.tag.specs.View.{bytesOf, tagFits}
@@ -21,41 +20,13 @@ use Rattle.model.specs.Model.{Place}
 use Rattle.model.specs.View.{rows, every, placeOf, placeFits, listFits}
 use Rattle.held.proofs.Laws.Rows.{rows-more}
 use Rattle.layout.specs.Words.{word}
-use Rattle.component_layout.specs.Components.{componentFrom}
-use Rattle.component_layout.specs.declared.component_numbers.ComponentWords.{ComponentWords}
-use Rattle.component_layout.specs.Numbers.{wordsOf}
-use Rattle.rows.specs.Rows.{blank, textIn, tagIn, placeFrom, placeIn, sixIn, sameWords, spelled, componentOfWords, componentIn, append, rowsIn, placeRow, placesIn}
-use Rattle.rows.proofs.Laws.Tests.{apart, and-true, and-false, every-append}
-use Rattle.rows.proofs.Laws.Reading.{blank-more, text-clean, rows-append, places-many, places-is}
+use Rattle.rows.specs.Rows.{blank, textIn, tagIn, placeFrom, placeIn, componentIn, append, rowsIn, placeRow, placesIn}
+use Rattle.rows.proofs.Laws.Tests.{apart, and-true, every-append}
+use Rattle.rows.proofs.Laws.Reading.{text-clean, rows-append, places-many, places-is}
 use Rattle.model_bytes.specs.ModelBytes.{both, entryIn, listIn}
 use Rattle.model_bytes.specs.Steps.{Read, Filled}
 
 -- ---- bytes
-
-pub blank-fail : (s : List ℕ) (at i n : ℕ) → i < n → (getD s (at + i) 0 ≡ 0 → ⊥) → blank s at n ≡ false
-unfolding blank
-blank-fail s at i zero h q = absurd (omega arith)
-blank-fail s at i (suc n) h q = go (eq-or-lt-of-le (le-of-suc-le-suc h)) (λ l. blank-fail s at i n l q)
-  where
-    go : i ≡ n ⊎ i < n → (i < n → blank s at n ≡ false) → (blank s at n && eqb (getD s (at + n) 0) 0) ≡ false
-    go (inl e) r = and-false (blank s at n) (ap (λ (k : ℕ). eqb (getD s (at + k) 0) 0) (sym e) ∙ ne-eqb (getD s (at + i) 0) 0 q)
-    go (inr l) r = ap (λ (b : Bool). b && eqb (getD s (at + n) 0) 0) (r l)
-
--- the same, up to an end
-module _ (s : List ℕ) (start i : ℕ) (h : start ≤ i) where
-  at-i : start + (i - start) ≡ i
-  at-i = omega arith
-
-  pub blank-next : blank s start (i - start) ≡ true → getD s i 0 ≡ 0 → blank s start (i + 1 - start) ≡ true
-  blank-next p q =
-      ap (blank s start) (let z : i + 1 - start ≡ i - start + 1 = omega arith in z)
-      ∙ blank-more s start (i - start) p (ap (λ (k : ℕ). getD s k 0) at-i ∙ q)
-
-  pub blank-stop : (end : ℕ) → i < end → (getD s i 0 ≡ 0 → ⊥) → blank s start (end - start) ≡ false
-  blank-stop end l q = blank-fail s start (i - start) (end - start) (omega arith) (λ e. q (sym (ap (λ (k : ℕ). getD s k 0) at-i) ∙ e))
-
-pub blank-as : (s : List ℕ) (at end n : ℕ) {b : Bool} → b ≡ blank s at (end - at) → end - at ≡ n → blank s at n ≡ b
-blank-as s at end n e q = ap (blank s at) (sym q) ∙ sym e
 
 pub copy-more : (b s : List ℕ) (at j : ℕ) → j < length b → at + j < length s → take j b ≡ take j (drop at s) → take (j + 1) (set b j (getD s (at + j) 0)) ≡ take (j + 1) (drop at s)
 copy-more b s at j hb hs e =
@@ -118,19 +89,6 @@ module _ (s : List ℕ) (at : ℕ) {n : ℕ} {t : Label} {ok : Bool} (w : n ≡ 
       inside : (b : Bool) → cond b (some (some (bytesOf t))) none ≡ Option·map some (cond b (some (bytesOf t)) none)
       inside true = refl
       inside false = refl
-
--- ---- components
-
-module _ (s : List ℕ) (at : ℕ) {w : ComponentWords} (e : w ≡ sixIn s at) where
-  component-by : {o : Option Component} → o ≡ componentFrom (w .kind) (w .a) (w .b) (w .c) (w .d) (w .e) → componentIn s at ≡ spelled w o
-  unfolding componentIn
-  component-by p = ap componentOfWords (sym e) ∙ ap (spelled w) (sym p)
-
-  pub component-none : {o : Option Component} → o ≡ componentFrom (w .kind) (w .a) (w .b) (w .c) (w .d) (w .e) → o ≡ none → none ≡ componentIn s at
-  component-none p q = sym (component-by p ∙ ap (spelled w) q)
-
-  pub component-own : (c : Component) {b : Bool} → some c ≡ componentFrom (w .kind) (w .a) (w .b) (w .c) (w .d) (w .e) → b ≡ sameWords (wordsOf c) w → cond b (some c) none ≡ componentIn s at
-  component-own c p q = ap (λ (b : Bool). cond b (some c) none) q ∙ sym (component-by p)
 
 -- ---- rows
 

@@ -1,10 +1,10 @@
 -- A tag in bytes: it is the string there, no longer than 32, and its key is its own. Assumes nothing.
 use Prim.Native.Nat.{ℕ, zero, suc, _+_, _*_, _-_, _%_, _≤_, _<_}
 use native.Mathlib.Omega.{arith}
-use native.Mathlib.Decide.{decLt, ℕ-discrete}
+use native.Mathlib.Decide.{decLt}
 use mathlib.Core.Path.{_≡_, refl, sym, ap, subst, _∙_}
 use mathlib.Core.Logic.{_≢_}
-use mathlib.Core.Bool.{Bool, true, false, _&&_, cond, not, true≢false}
+use mathlib.Core.Bool.{Bool, true, false, _&&_, cond, not}
 use mathlib.Core.List.{List}
 use mathlib.Core.Option.{Option, none, some, Option·map}
 use lib.Dec.{T, leb}
@@ -18,7 +18,7 @@ use Rattle.model.proofs.Laws.Valid.{some-some, none-some}
 use Rattle.layout.specs.Words.{four, word, text}
 use Rattle.rows.specs.Rows.{blank, textIn, tagIn, placeFrom, placeIn}
 use Rattle.rows.proofs.Laws.Tests.{and-left, and-right}
-use Rattle.model_bytes.proofs.Laws.Reading.{blank-fail}
+use Rattle.row_reading.proofs.Laws.{blank-zero}
 use Rattle.finding.proofs.Laws.Loops.{each-more}
 use Rattle.standing.specs.Names.{keyIn, Keys}
 
@@ -26,13 +26,6 @@ use Rattle.standing.specs.Names.{keyIn, Keys}
 pub cond-some : {A : Type 0} (b : Bool) {x y : A} → cond b (some x) none ≡ some y → (b ≡ true) × (x ≡ y)
 cond-some true e = (refl, some-some e)
 cond-some false e = none-some e
-
-blank-zero : (s : List ℕ) (at n i : ℕ) → blank s at n ≡ true → i < n → getD s (at + i) 0 ≡ 0
-blank-zero s at n i b h = go (ℕ-discrete (getD s (at + i) 0) 0)
-  where
-    go : Dec (getD s (at + i) 0 ≡ 0) → getD s (at + i) 0 ≡ 0
-    go (yes e) = e
-    go (no z) = absurd (true≢false (sym b ∙ blank-fail s at i n h z))
 
 -- the bytes of a string, and 0 past them
 module _ (n : ℕ) (s : List ℕ) (a : ℕ) (b : blank s (a + n) (32 - n) ≡ true) where

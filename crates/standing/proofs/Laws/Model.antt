@@ -18,7 +18,7 @@ use Rattle.component_layout.specs.Numbers.{wordsOf}
 use Rattle.component_layout.specs.declared.component_numbers.ComponentWords.{ComponentWords}
 use Rattle.rows.specs.Rows.{blank, tagIn, placeIn, sixIn, sameWords, spelled, componentOfWords, componentIn, rowsIn, placeRow, placesIn}
 use Rattle.model_bytes.specs.ModelBytes.{both, entryIn, listIn, headed, entryRow, listRow, joined, modelIn}
-use Rattle.model_bytes.specs.Holds.{Held}
+use Rattle.model_holding.specs.Holds.{Held}
 use Rattle.rows.proofs.Laws.Tests.{and-left}
 use Rattle.model_bytes.proofs.Laws.Decoding.{Head, head}
 use Rattle.finding.specs.Rows.{componentAt, listAt, fromSix, componentRow}

@@ -19,7 +19,7 @@ use Rattle.model.proofs.Laws.Bool.{true→T, and-T}
 use Rattle.model.proofs.Laws.Valid.{found-held, Good, good-valid}
 use Rattle.layout.specs.Words.{word, text}
 use Rattle.model_bytes.specs.ModelBytes.{entryRow, listRow, modelIn}
-use Rattle.model_bytes.specs.Holds.{Held}
+use Rattle.model_holding.specs.Holds.{Held}
 use Rattle.finding.specs.Rows.{componentAt, listAt, componentRow, tagOf}
 use Rattle.standing.specs.Names.{Keys, Apart}
 use Rattle.standing.specs.Standing.{PlaceNames, Owner, Owners, Filled, DefaultNamed, Wire, Wires, Leads, Stands}

@@ -5,7 +5,8 @@ use native.Mathlib.Omega.{arith}
 use borrow.Author.Needs.{needs}
 use borrow.Author.Tests.{not-true, not-false}
 use Rattle.held.proofs.Laws.Rows.{no-list}
-use Rattle.model_bytes.proofs.Laws.Reading.{blank-as, read-none, read-some, missing, found, unfilled, filled, list-no-tag, list-many as lists-many3, list-dirty, list-unread, list-is, list-sized}
+use Rattle.row_reading.proofs.Laws.{blank-as}
+use Rattle.model_bytes.proofs.Laws.Reading.{read-none, read-some, missing, found, unfilled, filled, list-no-tag, list-many as lists-many3, list-dirty, list-unread, list-is, list-sized}
 use Rattle.model_bytes.proofs.decode.read_list.Statement.{statement}
 use Rattle.model_bytes.proofs.decode.read_list.Tie as tie
 

@@ -3,7 +3,8 @@ use Prim.Native.Nat.{_+_}
 use mathlib.Core.Path.{sym}
 use native.Mathlib.Omega.{arith}
 use borrow.Author.Needs.{needs}
-use Rattle.model_bytes.proofs.Laws.Reading.{blank-as, place-blank, place-text}
+use Rattle.row_reading.proofs.Laws.{blank-as}
+use Rattle.model_bytes.proofs.Laws.Reading.{place-blank, place-text}
 use Rattle.model_bytes.proofs.decode.read_place.Statement.{statement}
 use Rattle.model_bytes.proofs.decode.read_place.Tie as tie
 

@@ -5,7 +5,8 @@ use native.Mathlib.Omega.{arith}
 use borrow.Author.Needs.{needs}
 use borrow.Author.Tests.{not-true, not-false}
 use Rattle.rows.proofs.Laws.Reading.{text-long, text-dirty}
-use Rattle.model_bytes.proofs.Laws.Reading.{blank-as, read-none, text-read}
+use Rattle.row_reading.proofs.Laws.{blank-as}
+use Rattle.model_bytes.proofs.Laws.Reading.{read-none, text-read}
 use Rattle.model_bytes.proofs.decode.read_text.Statement.{statement}
 use Rattle.model_bytes.proofs.decode.read_text.Tie as tie
 

@@ -1,0 +1,2 @@
+-- `Laws`: what stands in bytes, by its checks.
+pub mod Laws

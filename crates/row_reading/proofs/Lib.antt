@@ -1,0 +1,2 @@
+-- `Laws`: what the functions' proofs cite.
+pub mod Laws
