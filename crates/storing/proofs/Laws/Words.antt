@@ -16,7 +16,7 @@ use Rattle.edit.specs.declared.Edited.{Edited}
 use Rattle.edit.specs.Meets.{Meets}
 use Rattle.layout.specs.Components.{componentFrom, dataFrom}
 use Rattle.layout.specs.EditRows.{given}
-use Rattle.adding.specs.Inputs.{inputsOf}
+use Rattle.input_rows.specs.Inputs.{inputsOf}
 use Rattle.steady.proofs.Laws.Row.{given-none, given-some}
 use Rattle.direct_rows.specs.Took.{Takes}
 use Rattle.storing.specs.Edits.{functionOf, operationOf, dataOf, addedAs, componentEdit}

@@ -1,8 +1,8 @@
--- `adding::too_long` meets its contract. Assumes nothing.
+-- `input_rows::too_long` meets its contract. Assumes nothing.
 use borrow.Author.Tests.{not-true, not-false}
-use Rattle.adding.proofs.Laws.Inputs.{long-none, long-0, long-a, long-1, long-b, long-2, long-d}
-use Rattle.adding.proofs.too_long.Statement.{statement}
-use Rattle.adding.proofs.too_long.Tie as tie
+use Rattle.input_rows.proofs.Laws.Inputs.{long-none, long-0, long-a, long-1, long-b, long-2, long-d}
+use Rattle.input_rows.proofs.too_long.Statement.{statement}
+use Rattle.input_rows.proofs.too_long.Tie as tie
 
 returns : tie.Need-returns
 returns c = let a = c .before .args in long-none (a .given) (a .n) (a .a .now) (a .b .now) (a .d .now) (not-true _ (c .if1 .taken))

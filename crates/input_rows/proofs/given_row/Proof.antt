@@ -1,8 +1,8 @@
--- `adding::given_row` meets its contract. Assumes nothing.
+-- `input_rows::given_row` meets its contract. Assumes nothing.
 use borrow.Author.Needs.{needs}
-use Rattle.adding.proofs.Laws.Inputs.{given-row}
-use Rattle.adding.proofs.given_row.Statement.{statement}
-use Rattle.adding.proofs.given_row.Tie as tie
+use Rattle.input_rows.proofs.Laws.Inputs.{given-row}
+use Rattle.input_rows.proofs.given_row.Statement.{statement}
+use Rattle.input_rows.proofs.given_row.Tie as tie
 
 tag-of-requires : tie.Need-tag-of-requires
 tag-of-requires c κs = search needs

@@ -1,7 +1,7 @@
--- `adding::operation_row` meets its contract. Assumes nothing.
+-- `input_rows::operation_row` meets its contract. Assumes nothing.
 use borrow.Author.Needs.{needs}
-use Rattle.adding.proofs.operation_row.Statement.{statement}
-use Rattle.adding.proofs.operation_row.Tie as tie
+use Rattle.input_rows.proofs.operation_row.Statement.{statement}
+use Rattle.input_rows.proofs.operation_row.Tie as tie
 
 given-row-requires : tie.Need-given-row-requires
 given-row-requires c κs = search needs

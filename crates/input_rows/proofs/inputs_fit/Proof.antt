@@ -1,7 +1,7 @@
--- `adding::inputs_fit` meets its contract. Assumes nothing.
+-- `input_rows::inputs_fit` meets its contract. Assumes nothing.
 use borrow.Author.Needs.{needs}
-use Rattle.adding.proofs.inputs_fit.Statement.{statement}
-use Rattle.adding.proofs.inputs_fit.Tie as tie
+use Rattle.input_rows.proofs.inputs_fit.Statement.{statement}
+use Rattle.input_rows.proofs.inputs_fit.Tie as tie
 
 returns : tie.Need-returns
 returns c = rw (c .if1 .taken)

@@ -22,7 +22,7 @@ use Rattle.tag.proofs.Laws.View.{made-whole}
 use Rattle.model.proofs.Laws.Bool.{true→T, and-T}
 use Rattle.model.proofs.Laws.Valid.{unpassed}
 use Rattle.edit.proofs.Laws.Tests.{long, short, labelled}
-use Rattle.adding.specs.Inputs.{tagsGiven, inputsOf, fitting, Short, asked, RowOf}
+use Rattle.input_rows.specs.Inputs.{tagsGiven, inputsOf, fitting, Short, asked, RowOf}
 
 -- ---- whether one is too long
 
