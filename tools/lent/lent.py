@@ -101,7 +101,7 @@ def proof(name, crate, params, definition):
         name=name, dashed=name.replace('_', '-'), crate=crate, words=counted(len(params)), module=MODULES[len(params)],
         slices=len(slices), lifetimes=len(slices) + 1, passed=listed(kinds), kinds=spaced(f'({kind})' if ' ' in kind else kind for kind in kinds),
         kind_uses=', '.join(sorted({kind for _, kind in params})), what=definition.format(**held), definition=definition.split()[0],
-        more_uses='\nuse Rattle.adding.specs.Inputs.{inputsOf}' if 'inputsOf' in definition else '',
+        more_uses='\nuse Rattle.input_rows.specs.Inputs.{inputsOf}' if 'inputsOf' in definition else '',
     ))
 
 

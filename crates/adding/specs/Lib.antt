@@ -1,3 +1,2 @@
 pub mod Grown
-pub mod Inputs
 pub mod Free

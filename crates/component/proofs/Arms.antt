@@ -1,16 +1,8 @@
--- What the arms for several kinds at once return, the keys being the places of those kinds in the enum. Assumes nothing.
-use mathlib.Core.Path.{_≡_, refl}
+-- What holds of each of the kinds with no parameter, the keys being the places of those kinds in the enum. Assumes nothing.
 use mathlib.Core.List.{List, [], _∷_}
 use Prim.Native.Nat.{ℕ}
-use lib.Ieee.{Float}
 use types.Run.{OneOf, miss}
 use denote.Enum.Declared.{tagOf}
-use Rattle.geometry.specs.declared.vec3f.Vec3.{Vec3}
-use Rattle.component.specs.Parameter.{Name, setValue, setVec3, readParameter}
-use Rattle.component.specs.declared.model_component.Setting.{Setting}
-use Rattle.component.specs.declared.model_component.Setting.the-variants.{DoesNotFit}
-use Rattle.component.specs.declared.model_component.Reading.{Reading}
-use Rattle.component.specs.declared.model_component.Reading.the-variants.{Nothing}
 use Rattle.component.specs.declared.model_component.Component.{Component}
 use Rattle.component.specs.declared.model_component.Component.the-variants.{Constant, Sphere, Torus, Multiply, Add, Subtract, Divide, Lerp, VariableLerp, Remap, BooleanUnion, BooleanIntersection, BooleanDifference, Offset, Thickness}
 use Rattle.component.proofs.model_component.Component.{the-type}
@@ -18,10 +10,6 @@ use Rattle.component.proofs.model_component.Component.{the-type}
 -- the kinds with no parameter
 abbrev pub plain : List ℕ
 plain = 3 ∷ 4 ∷ 5 ∷ 6 ∷ 8 ∷ 10 ∷ 11 ∷ 12 ∷ []
-
--- all but the sphere and the torus
-abbrev pub uncentred : List ℕ
-uncentred = 0 ∷ 3 ∷ 4 ∷ 5 ∷ 6 ∷ 7 ∷ 8 ∷ 9 ∷ 10 ∷ 11 ∷ 12 ∷ 13 ∷ 14 ∷ []
 
 -- what holds of each of them holds of any
 module _ (P : Component → Type 0) (mul : P Multiply) (add : P Add) (sub : P Subtract) (div : P Divide) (lerp : P VariableLerp) (union : P BooleanUnion) (meet : P BooleanIntersection) (less : P BooleanDifference) where
@@ -41,29 +29,3 @@ module _ (P : Component → Type 0) (mul : P Multiply) (add : P Add) (sub : P Su
   plain-is BooleanDifference h = less
   plain-is (Offset d) h = absurd (miss plain 13 tt h)
   plain-is (Thickness t) h = absurd (miss plain 14 tt h)
-
-pub plain-value : (c : Component) (n : Name) (v : Float) → OneOf plain (tagOf the-type c) → DoesNotFit ≡ setValue c n v
-unfolding setValue
-plain-value c n v h = plain-is (λ k. DoesNotFit ≡ setValue k n v) refl refl refl refl refl refl refl refl c h
-
-pub plain-reading : (c : Component) (n : Name) → OneOf plain (tagOf the-type c) → Nothing ≡ readParameter c n
-unfolding readParameter
-plain-reading c n h = plain-is (λ k. Nothing ≡ readParameter k n) refl refl refl refl refl refl refl refl c h
-
-pub uncentred-vec3 : (c : Component) (n : Name) (v : Vec3) → OneOf uncentred (tagOf the-type c) → DoesNotFit ≡ setVec3 c n v
-unfolding setVec3
-uncentred-vec3 (Constant x) n v h = refl
-uncentred-vec3 (Sphere s) n v h = absurd (miss uncentred 1 tt h)
-uncentred-vec3 (Torus s) n v h = absurd (miss uncentred 2 tt h)
-uncentred-vec3 Multiply n v h = refl
-uncentred-vec3 Add n v h = refl
-uncentred-vec3 Subtract n v h = refl
-uncentred-vec3 Divide n v h = refl
-uncentred-vec3 (Lerp f) n v h = refl
-uncentred-vec3 VariableLerp n v h = refl
-uncentred-vec3 (Remap f g t u) n v h = refl
-uncentred-vec3 BooleanUnion n v h = refl
-uncentred-vec3 BooleanIntersection n v h = refl
-uncentred-vec3 BooleanDifference n v h = refl
-uncentred-vec3 (Offset d) n v h = refl
-uncentred-vec3 (Thickness t) n v h = refl

@@ -16,7 +16,7 @@ ghost use mathlib.Core.Path.{_≡_};
 ghost use mathlib.Core.Bool.{false};
 ghost use Rattle.tag.specs.View.{bytesOf};
 ghost use Rattle.model.specs.Edit.{addOperation, addConstant, addFunction, addComponent, made};
-ghost use Rattle.adding.specs.Inputs.{inputsOf};
+ghost use Rattle.input_rows.specs.Inputs.{inputsOf};
 ghost use Rattle.direct_rows.specs.Took.{Takes};
 ghost use Rattle.direct_adding.specs.Plain.{Plainly};
 
@@ -91,14 +91,14 @@ pub fn add_operation_in(
     if 32 < tag.len() {
         return not_added();
     }
-    if adding::too_long(given, n, a, b, d) {
+    if input_rows::too_long(given, n, a, b, d) {
         return not_added();
     }
     if !component::kind::is_operation(c) {
         return not_added();
     }
     let k = input_count(c);
-    if !adding::inputs_fit(given, n, k) {
+    if !input_rows::inputs_fit(given, n, k) {
         return not_added();
     }
     if !stands(s) {
@@ -116,7 +116,7 @@ pub fn add_operation_in(
     if 128 <= j {
         return not_added();
     }
-    let row = adding::operation_row(t, given, k, a, b, d);
+    let row = input_rows::operation_row(t, given, k, a, b, d);
     put_operation(s, m, j, c, row, t);
     Added { ok: true, tag: t }
 }
@@ -149,7 +149,7 @@ pub fn add_component_in(s: &mut [u8], tag: &[u8], c: Component) -> Added
     if 128 <= j {
         return not_added();
     }
-    let row = adding::unassigned_row(v, input_count(c));
+    let row = input_rows::unassigned_row(v, input_count(c));
     put_operation(s, m, j, c, row, t);
     Added { ok: true, tag: v }
 }

@@ -26,7 +26,7 @@ pub fn set_parameter_in(s: &mut [u8], tag: &[u8], name: &[u8], data: Data) -> bo
     let ComponentRead::Component(c) = read else {
         return false;
     };
-    let set = component::setting::set_parameter(c, name, data);
+    let set = parameter_setting::set_parameter(c, name, data);
     let Setting::Changed(k) = set else {
         return false;
     };

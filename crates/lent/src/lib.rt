@@ -4,7 +4,7 @@ use component::parameter::Data;
 use model::implicit_model::Model;
 use model::model_error::Answer;
 ghost use Rattle.model.specs.Edit.{addConstant, addFunction, addOperation, addComponent, addInput, removeInput, removeComponent, renameComponent, setParameter};
-ghost use Rattle.adding.specs.Inputs.{inputsOf};
+ghost use Rattle.input_rows.specs.Inputs.{inputsOf};
 ghost use Rattle.edit.specs.Meets.{Meets};
 
 pub fn add_constant(m: &mut Model, tag: &[u8], value: f64) -> Answer

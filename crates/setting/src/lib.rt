@@ -25,7 +25,7 @@ pub fn set_parameter(m: Model, tag: &[u8], name: &[u8], data: Data) -> Edited
     };
     let e = m.components[i];
     let c = e.component;
-    let s = component::setting::set_parameter(c, name, data);
+    let s = parameter_setting::set_parameter(c, name, data);
     match s {
         Setting::DoesNotFit => edit::refuse(m, ModelError::ParameterDoesNotFit, t, 0),
         Setting::TooNear => edit::refuse(m, ModelError::ParameterTooNear, t, 0),

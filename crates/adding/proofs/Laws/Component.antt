@@ -31,7 +31,7 @@ use Rattle.edit.specs.Ends.{Ends, Refused}
 use Rattle.edit.proofs.Laws.Step.{Step, refusal, skip, stop, finish-made, meets-on}
 use Rattle.edit.proofs.Laws.Tests.{long, short, labelled, carrying, is-full, has-room}
 use Rattle.adding.specs.Grown.{withMore, noRoom, listPut}
-use Rattle.adding.specs.Inputs.{RowOf}
+use Rattle.input_rows.specs.Inputs.{RowOf}
 use Rattle.adding.specs.Free.{FreeTag}
 use Rattle.adding.proofs.Laws.Grown.{grown-stands, grown-same, lists-stay}
 use Rattle.adding.proofs.Laws.Operation.{full-is, put-done}

@@ -34,9 +34,9 @@ use Rattle.edit.proofs.Laws.Step.{Step, skip, stop, finish-made, meets-on}
 use Rattle.edit.proofs.Laws.Stored.{over-row, more-row}
 use Rattle.edit.proofs.Laws.Tests.{long, short, labelled, carrying, taken, free, missing, sought-by, found-row, is-full, has-room}
 use Rattle.adding.specs.Grown.{withMore, noRoom, listPut}
-use Rattle.adding.specs.Inputs.{inputsOf, fitting, asked, RowOf}
+use Rattle.input_rows.specs.Inputs.{inputsOf, fitting, asked, RowOf}
 use Rattle.adding.proofs.Laws.Grown.{grown-stands, grown-same}
-use Rattle.adding.proofs.Laws.Inputs.{count-is, asked-are}
+use Rattle.input_rows.proofs.Laws.Inputs.{count-is, asked-are}
 
 pub few-inputs : (c : Component) → inputCount c ≤ 3
 few-inputs c = leb→le (inputCount c) 3 (count-few c)

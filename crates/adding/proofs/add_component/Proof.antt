@@ -12,7 +12,7 @@ use Rattle.model.specs.Edit.{made}
 use Rattle.edit.specs.Ends.{Ends}
 use Rattle.edit.proofs.Laws.Step.{meets-7}
 use Rattle.adding.specs.Grown.{listPut}
-use Rattle.adding.specs.Inputs.{RowOf}
+use Rattle.input_rows.specs.Inputs.{RowOf}
 use Rattle.adding.proofs.Laws.Operation.{few-inputs, room-after}
 use Rattle.adding.proofs.Laws.Component.{add-1, add-17, add-15, add-plain, add-16, add-done}
 use Rattle.adding.proofs.add_component.Statement.{statement}

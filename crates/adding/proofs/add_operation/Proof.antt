@@ -10,8 +10,8 @@ use Rattle.model.specs.Edit.{made}
 use Rattle.edit.specs.Ends.{Ends}
 use Rattle.edit.proofs.Laws.Step.{meets-7}
 use Rattle.adding.specs.Grown.{listPut}
-use Rattle.adding.specs.Inputs.{fitting, asked, RowOf}
-use Rattle.adding.proofs.Laws.Inputs.{asked-short}
+use Rattle.input_rows.specs.Inputs.{fitting, asked, RowOf}
+use Rattle.input_rows.proofs.Laws.Inputs.{asked-short}
 use Rattle.adding.proofs.Laws.Operation.{few-inputs, room-after, op-1, op-1-inputs, op-4, op-11, op-2, op-15, op-16, op-done}
 use Prim.Native.Nat.{ℕ}
 use Rattle.adding.proofs.add_operation.Statement.{statement}

@@ -19,7 +19,7 @@ use Rattle.model.specs.Edit.{addComponent, made, freeTag}
 use Rattle.model.proofs.Laws.Numbered.{free-tag}
 use Rattle.edit.proofs.Laws.Tests.{short, labelled}
 use Rattle.adding.specs.Free.{FreeTag}
-use Rattle.adding.specs.Inputs.{RowOf}
+use Rattle.input_rows.specs.Inputs.{RowOf}
 use Rattle.adding.proofs.Laws.Operation.{few-inputs}
 use Rattle.adding.proofs.Laws.Component.{fits-not-long}
 use Rattle.layout.specs.Words.{word}

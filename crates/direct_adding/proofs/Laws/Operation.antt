@@ -19,8 +19,8 @@ use Rattle.model.specs.Edit.{addOperation, made, lookedAt, newPlaces}
 use Rattle.model.specs.View.{listFits}
 use Rattle.model.proofs.Laws.Bool.{T→true}
 use Rattle.edit.proofs.Laws.Tests.{short, labelled}
-use Rattle.adding.specs.Inputs.{inputsOf, fitting, Short, asked, RowOf}
-use Rattle.adding.proofs.Laws.Inputs.{count-is, asked-are, asked-short}
+use Rattle.input_rows.specs.Inputs.{inputsOf, fitting, Short, asked, RowOf}
+use Rattle.input_rows.proofs.Laws.Inputs.{count-is, asked-are, asked-short}
 use Rattle.adding.proofs.Laws.Operation.{few-inputs}
 use Rattle.layout.specs.Words.{word}
 use Rattle.rows.specs.Rows.{placesOf}

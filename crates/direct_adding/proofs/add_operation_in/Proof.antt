@@ -3,7 +3,7 @@ use native.Mathlib.Omega.{arith}
 use borrow.Author.Needs.{needs}
 use mathlib.Core.Path.{sym, ap, _∙_}
 use borrow.Author.Tests.{not-false}
-use Rattle.adding.specs.Inputs.{fitting}
+use Rattle.input_rows.specs.Inputs.{fitting}
 use Rattle.direct_rows.proofs.Laws.Parts.{whole}
 use Rattle.direct_adding.proofs.Laws.Plain.{left}
 use Rattle.direct_adding.proofs.Laws.Operation.{row-few, asked-row, operation-done}

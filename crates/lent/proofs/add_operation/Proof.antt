@@ -22,7 +22,7 @@ use denote.Triple.Entry.{Args}
 use denote.Triple.Spec.{Spec, Meets as Meeting, tripleOf}
 use denote.Triple.Table.{entered, cited}
 use Rattle.model.specs.Edit.{Edit, addOperation}
-use Rattle.adding.specs.Inputs.{inputsOf}
+use Rattle.input_rows.specs.Inputs.{inputsOf}
 use Rattle.model.specs.declared.implicit_model.Model.{Model}
 use Rattle.model.specs.declared.model_error.Answer.{Answer}
 use Rattle.model.proofs.implicit_model.Model as Mo

@@ -23,7 +23,7 @@ use Rattle.layout.specs.Words.{word, text}
 use Rattle.component_layout.specs.Components.{number}
 use Rattle.edit_rows.specs.EditRows.{textsFit, componentAt, dataAt, tagsGiven, given, nine, editAt, ahead, rowsAt, editsOf}
 use Rattle.edit_rows.proofs.Laws.{rows-next}
-use Rattle.adding.specs.Inputs.{tagsGiven as handedOver, inputsOf}
+use Rattle.input_rows.specs.Inputs.{tagsGiven as handedOver, inputsOf}
 use Rattle.steady.specs.Lists.{carried, afterRename}
 use Rattle.steady.specs.Steps.{tagAt, Runs, Step, Stepped, At, Listed}
 use Rattle.steady.proofs.Laws.Along.{at-start, at-next}

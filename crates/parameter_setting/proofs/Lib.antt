@@ -1,0 +1,2 @@
+-- `Arms` is what the functions' proofs cite.
+mod Arms
