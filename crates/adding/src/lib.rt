@@ -48,7 +48,7 @@ fn with_more(m: Model, t: Tag, c: Component, d: Tag) -> Model
 fn add_plain(m: Model, tag: &[u8], c: Component, fits: bool) -> Edited
     ensures { λ r. ⌜ Plainly (now (tag .entry)) c fits m r ⌝ }
 {
-    if !held::validity::is_valid(m) {
+    if !validity::is_valid(m) {
         return edit::refuse_plain(m, ModelError::InvalidModel);
     }
     if 32 < tag.len() {
@@ -120,7 +120,7 @@ pub fn add_operation(
 ) -> Edited
     ensures { λ r. ⌜ Meets (addOperation (now (tag .entry)) c (inputsOf given n (now (a .entry)) (now (b .entry)) (now (d .entry)))) m r ⌝ }
 {
-    if !held::validity::is_valid(m) {
+    if !validity::is_valid(m) {
         return edit::refuse_plain(m, ModelError::InvalidModel);
     }
     if 32 < tag.len() {
@@ -188,7 +188,7 @@ fn free_tag(m: Model, t: Tag) -> Numbered
 pub fn add_component(m: Model, tag: &[u8], c: Component) -> Edited
     ensures { λ r. ⌜ Meets (addComponent (now (tag .entry)) c) m r ⌝ }
 {
-    if !held::validity::is_valid(m) {
+    if !validity::is_valid(m) {
         return edit::refuse_plain(m, ModelError::InvalidModel);
     }
     if 32 < tag.len() {

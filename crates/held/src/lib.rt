@@ -1,4 +1,3 @@
-// What a model holds: found by tag, read, and judged by 7.
+// What a model holds: found by tag, and read. Crate validity judges it by 7.
 pub mod find;
 pub mod reading;
-pub mod validity;

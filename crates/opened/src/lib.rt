@@ -1,9 +1,9 @@
 // What the calls that read a model share: the model that bytes hold, and the report.
-use held::validity::is_valid;
 use model_bytes::decode::Decoded;
 use model_bytes::decode::decode;
 use report::write_report;
 use tag::Tag;
+use validity::is_valid;
 ghost use Rattle.tag.specs.View.{bytesOf};
 ghost use Rattle.opened.specs.Said.{plain, Says, Opens};
 

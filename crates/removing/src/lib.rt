@@ -28,7 +28,7 @@ fn without_entry(m: Model, i: usize) -> Model
 pub fn remove_component(m: Model, tag: &[u8]) -> Edited
     ensures { λ r. ⌜ Meets (removeComponent (now (tag .entry))) m r ⌝ }
 {
-    if !held::validity::is_valid(m) {
+    if !validity::is_valid(m) {
         return edit::refuse_plain(m, ModelError::InvalidModel);
     }
     if 32 < tag.len() {

@@ -71,7 +71,7 @@ fn list_moved(m: Model, t: Tag, u: Tag) -> Model
 pub fn rename_component(m: Model, old: &[u8], new: &[u8]) -> Edited
     ensures { λ r. ⌜ Meets (renameComponent (now (old .entry)) (now (new .entry))) m r ⌝ }
 {
-    if !held::validity::is_valid(m) {
+    if !validity::is_valid(m) {
         return edit::refuse_plain(m, ModelError::InvalidModel);
     }
     if 32 < old.len() {

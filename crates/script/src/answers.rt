@@ -112,7 +112,7 @@ fn evaluate_at(out: &mut [u8], m: Model, target: &[u8], p: Vec3) -> usize {
 
 // A model that 7 does not let pass is not written.
 fn dump(out: &mut [u8], m: Model) -> usize {
-    if held::validity::is_valid(m) {
+    if validity::is_valid(m) {
         let word = put(out, 0, b"ok");
         return put_record(out, word, m);
     }

@@ -12,7 +12,7 @@ ghost use Rattle.edit.specs.Meets.{Meets};
 pub fn set_parameter(m: Model, tag: &[u8], name: &[u8], data: Data) -> Edited
     ensures { λ r. ⌜ Meets (setParameter (now (tag .entry)) (now (name .entry)) «data») m r ⌝ }
 {
-    if !held::validity::is_valid(m) {
+    if !validity::is_valid(m) {
         return edit::refuse_plain(m, ModelError::InvalidModel);
     }
     if 32 < tag.len() {

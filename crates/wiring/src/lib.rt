@@ -135,7 +135,7 @@ fn wire(m: Model, i: usize, l: InputList, index: usize, s: Tag) -> Edited
 pub fn remove_input(m: Model, tag: &[u8], index: usize) -> Edited
     ensures { λ r. ⌜ Meets (removeInput (now (tag .entry)) index) m r ⌝ }
 {
-    if !held::validity::is_valid(m) {
+    if !validity::is_valid(m) {
         return edit::refuse_plain(m, ModelError::InvalidModel);
     }
     if 32 < tag.len() {
@@ -162,7 +162,7 @@ pub fn remove_input(m: Model, tag: &[u8], index: usize) -> Edited
 pub fn add_input(m: Model, target: &[u8], source: &[u8], index: usize) -> Edited
     ensures { λ r. ⌜ Meets (addInput (now (target .entry)) (now (source .entry)) index) m r ⌝ }
 {
-    if !held::validity::is_valid(m) {
+    if !validity::is_valid(m) {
         return edit::refuse_plain(m, ModelError::InvalidModel);
     }
     if 32 < target.len() {

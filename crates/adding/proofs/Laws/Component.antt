@@ -23,7 +23,7 @@ use Rattle.model.specs.View.{componentsOf, listsOf, view, passes}
 use Rattle.held.specs.Search.{Sought}
 use Rattle.model.proofs.Laws.Bool.{true→T}
 use Rattle.model.proofs.Laws.Numbered.{free-tag}
-use Rattle.held.proofs.Laws.Passes.{fits-short}
+use Rattle.validity.proofs.Laws.Passes.{fits-short}
 use Rattle.held.proofs.Laws.Standing.{standing}
 use Rattle.edit.specs.declared.Edited.{Edited}
 use Rattle.edit.specs.Meets.{Meets}

@@ -15,7 +15,7 @@ use Rattle.edit.proofs.done.Reads as done-reads
 use Rattle.edit.proofs.refuse.Reads as refuse-reads
 use Rattle.edit.proofs.refuse_plain.Reads as refuse-plain-reads
 use Rattle.held.proofs.find.find_component.Reads as find-component-reads
-use Rattle.held.proofs.validity.is_valid.Reads as is-valid-reads
+use Rattle.validity.proofs.is_valid.Reads as is-valid-reads
 use Rattle.removing.proofs.swapping.places_swapped.Reads as places-swapped-reads
 use Rattle.removing.proofs.without_entry.Reads as without-entry-reads
 use Rattle.tag.proofs.tag_of.Reads as tag-of-reads

@@ -17,7 +17,7 @@ use Rattle.edit.proofs.refuse.Reads as refuse-reads
 use Rattle.edit.proofs.refuse_plain.Reads as refuse-plain-reads
 use Rattle.edit.proofs.rows.with_entry.Reads as with-entry-reads
 use Rattle.held.proofs.find.find_component.Reads as find-component-reads
-use Rattle.held.proofs.validity.is_valid.Reads as is-valid-reads
+use Rattle.validity.proofs.is_valid.Reads as is-valid-reads
 use Rattle.removing.proofs.swapping.places_swapped.Reads as places-swapped-reads
 use Rattle.renaming.proofs.entry_under.Reads as entry-under-reads
 use Rattle.renaming.proofs.list_moved.Reads as list-moved-reads

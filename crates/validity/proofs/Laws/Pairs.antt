@@ -1,0 +1,101 @@
+-- Two indices that run over a table in one loop: pairs of rows that hold one tag, and a tag looked for anew at each row. Assumes nothing.
+use mathlib.Core.Path.{_≡_, refl, sym, _∙_}
+use mathlib.Core.Bool.{Bool, true, false}
+use mathlib.Core.List.{List, [], _∷_}
+use mathlib.Core.Option.{none, some}
+use Prim.Native.Nat.{ℕ, zero, suc, _+_, _<_, _≤_}
+use native.Mathlib.Numerals.{add-one}
+use native.Mathlib.Nat.{not-suc-le-zero, le-of-suc-le-suc}
+use lib.ListN.{drop, length, drop-of-length-le}
+use Rattle.tag.specs.Tags.{Tag, is}
+use Rattle.model.specs.Table.{Table, find, held, distinct}
+use Rattle.model.specs.View.{every}
+use Rattle.held.proofs.Laws.Rows.{every-hit, every-miss, every-end}
+use Rattle.held.proofs.Laws.Search.{distinct-hit, distinct-miss, distinct-end}
+
+row-there : {A : Type 0} (xs : List A) (i : ℕ) → i < length xs → (x : A) × (drop i xs ≡ x ∷ drop (i + 1) xs)
+row-there {A} xs i h = rw add-one (go xs i h)
+  where
+    go : (xs : List A) (i : ℕ) → i < length xs → (x : A) × (drop i xs ≡ x ∷ drop (suc i) xs)
+    go [] i h = absurd (not-suc-le-zero h)
+    go (x ∷ xs) zero h = (x, refl)
+    go (x ∷ xs) (suc i) h = go xs i (le-of-suc-le-suc h)
+
+-- The rows ahead of i stand in no pair, nor does row i with one ahead of j.
+pub record Apart {A : Type 0} (r : Table A) (i j : ℕ) : Type 0 where
+  pub rest : distinct (drop i r) ≡ distinct r
+  pub seen : (e : Tag × A) → drop i r ≡ e ∷ drop (i + 1) r → held (e .0) (drop (i + 1) r) ≡ held (e .0) (drop j r)
+
+module _ {A : Type 0} (r : Table A) where
+  pub apart-start : Apart r 0 1
+  apart-start = record { rest = refl; seen = λ e h. refl }
+
+  module _ (i j : ℕ) (a : Apart r i j) (e : Tag × A) (at : drop i r ≡ e ∷ drop (i + 1) r) where
+    -- row j is another tag, or the same
+    module _ (f : Tag × A) (next : drop j r ≡ f ∷ drop (j + 1) r) (b : Bool) (q : b ≡ is (f .0) (e .0)) where
+      pub apart-on : b ≡ false → Apart r i (j + 1)
+      unfolding held
+      apart-on h = record {
+        rest = a .rest;
+        seen = λ x p.
+            let k : x ≡ e = cc in
+            rw k (a .seen e at ∙ rw (next, ← q, h));
+      }
+
+      pub apart-pair : b ≡ true → false ≡ distinct r
+      unfolding held
+      apart-pair h = sym (distinct-miss r i at (a .seen e at ∙ rw (next, ← q, h))) ∙ a .rest
+
+  -- no row is left for row i
+  pub apart-next : (i j : ℕ) → Apart r i j → i < length r → length r ≤ j → Apart r (i + 1) (i + 1 + 1)
+  unfolding held
+  apart-next i j a l h =
+      let e = row-there r i l in
+      record {
+        rest = sym (distinct-hit r i (e .1) (a .seen (e .0) (e .1) ∙ rw (drop-of-length-le r h))) ∙ a .rest;
+        seen = λ x p. refl;
+      }
+
+  pub apart-end : (i j : ℕ) → Apart r i j → length r ≤ i → true ≡ distinct r
+  apart-end i j a h = sym (distinct-end r i h) ∙ a .rest
+
+-- The rows ahead of i pass their tests bs, and no row of ls ahead of j has the tag of row i.
+pub record Looking {A B : Type 0} (bs : List Bool) (r : Table A) (ls : Table B) (i j : ℕ) : Type 0 where
+  pub rest : every (drop i bs) ≡ every bs
+  pub seen : (e : Tag × A) → drop i r ≡ e ∷ drop (i + 1) r → find (e .0) ls ≡ find (e .0) (drop j ls)
+
+module _ {A B : Type 0} (bs : List Bool) (r : Table A) (ls : Table B) where
+  pub looking-start : Looking bs r ls 0 0
+  looking-start = record { rest = refl; seen = λ e h. refl }
+
+  module _ (i j : ℕ) (a : Looking bs r ls i j) where
+    module _ (e : Tag × A) (at : drop i r ≡ e ∷ drop (i + 1) r) where
+      -- row j of ls has another tag, or this one
+      module _ (f : Tag × B) (next : drop j ls ≡ f ∷ drop (j + 1) ls) (b : Bool) (q : b ≡ is (f .0) (e .0)) where
+        pub looking-on : b ≡ false → Looking bs r ls i (j + 1)
+        unfolding find
+        looking-on h = record {
+          rest = a .rest;
+          seen = λ x p.
+              let k : x ≡ e = cc in
+              rw k (a .seen e at ∙ rw (next, ← q, h));
+        }
+
+        pub looking-found : b ≡ true → find (e .0) ls ≡ some (f .1)
+        unfolding find
+        looking-found h = a .seen e at ∙ rw (next, ← q, h)
+
+      pub looking-missing : length ls ≤ j → find (e .0) ls ≡ none
+      unfolding find
+      looking-missing h = a .seen e at ∙ rw (drop-of-length-le ls h)
+
+    -- row i passes its test, or not
+    module _ {b : Bool} (test : drop i bs ≡ b ∷ drop (i + 1) bs) where
+      pub looking-next : b ≡ true → Looking bs r ls (i + 1) 0
+      looking-next h = record { rest = sym (every-hit bs i test h) ∙ a .rest; seen = λ x p. refl }
+
+      pub looking-stop : b ≡ false → false ≡ every bs
+      looking-stop h = sym (every-miss bs i test h) ∙ a .rest
+
+    pub looking-end : length bs ≤ i → true ≡ every bs
+    looking-end h = sym (every-end bs i h) ∙ a .rest
