@@ -3,14 +3,14 @@ mod list;
 mod newest;
 mod row;
 
-use graph::evaluate::Evaluating;
-use graph::evaluate::Evaluation;
-use graph::evaluate::evaluate_at;
+use evaluating::evaluate::Evaluating;
+use evaluating::evaluate::Evaluation;
+use evaluating::evaluate::evaluate_at;
 use layout::edit_row::are_edits;
 use layout::words::read_text;
 use model::implicit_model::Model;
 use model::model_error::ModelError;
-ghost use Rattle.graph.specs.Evaluate.{EvaluatesAs, pointOf};
+ghost use Rattle.evaluating.specs.Evaluate.{EvaluatesAs, pointOf};
 ghost use Rattle.layout.specs.EditRows.{editsOf};
 ghost use Rattle.steady.specs.Steadied.{After};
 ghost use Rattle.steady.specs.Steps.{tagAt};

@@ -15,13 +15,13 @@ use Rattle.model.specs.declared.model_error.ModelError.the-variants.{InvalidMod
 use Rattle.model.specs.Answer.{numberOf}
 use Rattle.model.specs.Form.{Reply, bits, handed, Evaluated}
 use Rattle.model.specs.View.{view, passes}
 use Rattle.graph.specs.declared.computation_graph.Compiling.{Compiling}
 use Rattle.graph.specs.declared.computation_graph.Compiling.the-variants.{Ordered, Refused}
 use Rattle.graph.specs.declared.computation_graph.CompiledGraph.{CompiledGraph}
-use Rattle.graph.specs.declared.evaluate.Evaluating.{Evaluating}
-use Rattle.graph.specs.declared.evaluate.Evaluating.the-variants.{Number, Refused as Handed}
-use Rattle.graph.specs.declared.evaluate.Evaluation.{Evaluation}
+use Rattle.evaluating.specs.declared.evaluate.Evaluating.{Evaluating}
+use Rattle.evaluating.specs.declared.evaluate.Evaluating.the-variants.{Number, Refused as Handed}
+use Rattle.evaluating.specs.declared.evaluate.Evaluation.{Evaluation}
 use Rattle.graph.specs.Compile.{CompilesAs}
 
 abbrev pub pointOf : Float → Float → Float → Vec3
 pointOf x y z = record { x = x; y = y; z = z }

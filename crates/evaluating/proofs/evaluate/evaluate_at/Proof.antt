@@ -1,10 +1,10 @@
--- `graph::evaluate::evaluate_at` meets its contract: `Laws/Along.antt`. Assumes nothing.
+-- `evaluating::evaluate::evaluate_at` meets its contract: `Laws/Along.antt`. Assumes nothing.
 use borrow.Author.Needs.{needs}
 use mathlib.Core.Path.{ap, _∙_}
-use Rattle.graph.specs.Evaluate.{errorOf, pointOf}
-use Rattle.graph.proofs.Laws.Along.{replies, hands-on}
-use Rattle.graph.proofs.evaluate.evaluate_at.Statement.{statement}
-use Rattle.graph.proofs.evaluate.evaluate_at.Tie as tie
+use Rattle.evaluating.specs.Evaluate.{errorOf, pointOf}
+use Rattle.evaluating.proofs.Laws.Along.{replies, hands-on}
+use Rattle.evaluating.proofs.evaluate.evaluate_at.Statement.{statement}
+use Rattle.evaluating.proofs.evaluate.evaluate_at.Tie as tie
 
 compile-requires : tie.Need-compile-requires
 compile-requires c κs = search needs

@@ -1,13 +1,13 @@
--- `graph::evaluate::number_along` meets its contract: `Laws/Along.antt`. Assumes nothing.
+-- `evaluating::evaluate::number_along` meets its contract: `Laws/Along.antt`. Assumes nothing.
 use native.Mathlib.Omega.{arith}
 use borrow.Author.Needs.{needs}
 use Prim.Native.Nat.{_≤_, _<_, _-_}
 use mathlib.Core.List.{List·Memᴰ·not-nil}
 use lib.Ieee.{Float, binary64, ofBits}
 use lib.ListN.{getD, length-replicate}
-use Rattle.graph.proofs.Laws.Along.{Worked, few, small, some-of-them, worked-more, worked-end}
-use Rattle.graph.proofs.evaluate.number_along.Statement.{statement}
-use Rattle.graph.proofs.evaluate.number_along.Tie as tie
+use Rattle.evaluating.proofs.Laws.Along.{Worked, few, small, some-of-them, worked-more, worked-end}
+use Rattle.evaluating.proofs.evaluate.number_along.Statement.{statement}
+use Rattle.evaluating.proofs.evaluate.number_along.Tie as tie
 
 abbrev Inv-loop : tie.InvT-loop
 Inv-loop n p m order inputs vals₀ k₀ vals k = (k ≤ n) × Worked m order p vals k

@@ -1,9 +1,9 @@
--- `graph::evaluate::input` meets its contract. Assumes nothing.
+-- `evaluating::evaluate::input` meets its contract. Assumes nothing.
 use borrow.Author.Needs.{needs}
 use borrow.Author.Tests.{lt-ltb, le-ltb}
 use lib.Ieee.{div, ofBits, ofFields, odd}
-use Rattle.graph.proofs.evaluate.input.Statement.{statement}
-use Rattle.graph.proofs.evaluate.input.Tie as tie
+use Rattle.evaluating.proofs.evaluate.input.Statement.{statement}
+use Rattle.evaluating.proofs.evaluate.input.Tie as tie
 
 mul-result : tie.Need-mul-result
 mul-result c = search needs

@@ -1,10 +1,10 @@
 // A form's number at a point.
-use crate::computation_graph::CompiledGraph;
-use crate::computation_graph::Compiling;
-use crate::computation_graph::compile;
 use component::model_component::compute;
 use float::bits::bits_of;
 use geometry::vec3f::Vec3;
+use graph::computation_graph::CompiledGraph;
+use graph::computation_graph::Compiling;
+use graph::computation_graph::compile;
 use model::implicit_model::Model;
 use model::model_error::ModelError;
 use tag::Tag;
@@ -12,8 +12,8 @@ ghost use mathlib.Core.Path.{_≡_};
 ghost use Rattle.tag.specs.Tags.{Tag as Bytes};
 ghost use Rattle.model.specs.Form.{Number};
 ghost use Rattle.model.specs.View.{view};
 ghost use Rattle.graph.specs.Compile.{CompilesAs};
-ghost use Rattle.graph.specs.Evaluate.{errorOf, inputOf, Workable, EvaluatesAs, pointOf};
+ghost use Rattle.evaluating.specs.Evaluate.{errorOf, inputOf, Workable, EvaluatesAs, pointOf};
 
 // How an evaluation ended: with the bits of a number, or refused.
 pub enum Evaluating {

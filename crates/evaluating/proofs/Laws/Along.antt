@@ -29,20 +29,20 @@ use Rattle.model.specs.View.{componentOf, componentsOf, view, passes}
 use Rattle.held.specs.Search.{position}
 use Rattle.held.proofs.Laws.Rows.{no-entry, rows-length}
 use Rattle.held.proofs.Laws.Standing.{Standing, standing}
 use Rattle.graph.specs.declared.computation_graph.Compiling.{Compiling}
 use Rattle.graph.specs.declared.computation_graph.Compiling.the-variants.{Ordered, Refused}
 use Rattle.graph.specs.declared.computation_graph.CompiledGraph.{CompiledGraph}
-use Rattle.graph.specs.declared.evaluate.Evaluating.the-variants.{Number as Bits, Refused as Handed}
+use Rattle.evaluating.specs.declared.evaluate.Evaluating.the-variants.{Number as Bits, Refused as Handed}
 use Rattle.graph.specs.Nodes.{_∈_}
 use Rattle.graph.specs.Wiring.{look, placeWant, nodeOf, settled}
 use Rattle.graph.specs.Compile.{countOf, endingOf, tagAt, CompilesAs}
-use Rattle.graph.specs.Evaluate.{inputOf, EvaluatesAs}
+use Rattle.evaluating.specs.Evaluate.{inputOf, EvaluatesAs}
 use Rattle.graph.proofs.Laws.Order.{snoc-cut, no-cut}
 use Rattle.graph.proofs.Laws.Wires.{take-at}
 use Rattle.graph.proofs.Laws.Node.{position-at, node-hit, entry-row}
 use Rattle.graph.proofs.Laws.Places.{want-names, want-past}
 use Rattle.graph.proofs.Laws.Names.{map-mem, map-mem-inv}
 use Rattle.graph.proofs.Laws.Drawing.{inputs-short}
 
 -- ---- an order cut in front of one of its tags
 
