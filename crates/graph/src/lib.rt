@@ -1,5 +1,4 @@
 // The order of a form.
 pub mod computation_graph;
 mod least;
-mod nodes;
 mod wiring;

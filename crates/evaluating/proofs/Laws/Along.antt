@@ -33,12 +33,12 @@ use Rattle.graph.specs.declared.computation_graph.Compiling.{Compiling}
 use Rattle.graph.specs.declared.computation_graph.Compiling.the-variants.{Ordered, Refused}
 use Rattle.graph.specs.declared.computation_graph.CompiledGraph.{CompiledGraph}
 use Rattle.evaluating.specs.declared.evaluate.Evaluating.the-variants.{Number as Bits, Refused as Handed}
-use Rattle.graph.specs.Nodes.{_∈_}
+use Rattle.nodes.specs.Nodes.{_∈_}
 use Rattle.graph.specs.Wiring.{look, placeWant, nodeOf, settled}
 use Rattle.graph.specs.Compile.{countOf, endingOf, tagAt, CompilesAs}
 use Rattle.evaluating.specs.Evaluate.{inputOf, EvaluatesAs}
-use Rattle.graph.proofs.Laws.Order.{snoc-cut, no-cut}
-use Rattle.graph.proofs.Laws.Wires.{take-at}
+use Rattle.nodes.proofs.Laws.Order.{snoc-cut, no-cut}
+use Rattle.nodes.proofs.Laws.Wires.{take-at}
 use Rattle.graph.proofs.Laws.Node.{position-at, node-hit, entry-row}
 use Rattle.graph.proofs.Laws.Places.{want-names, want-past}
 use Rattle.graph.proofs.Laws.Names.{map-mem, map-mem-inv}
