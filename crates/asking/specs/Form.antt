@@ -13,8 +13,8 @@ use Rattle.model.specs.Form.{Compiling as Ending, ordered, stopped, Compiled, R
 use Rattle.graph.specs.declared.computation_graph.Compiling.{Compiling}
 use Rattle.graph.specs.declared.computation_graph.Compiling.the-variants.{Ordered, Refused}
 use Rattle.graph.specs.declared.computation_graph.CompiledGraph.{CompiledGraph}
-use Rattle.graph.specs.declared.evaluate.Evaluating.{Evaluating}
-use Rattle.graph.specs.declared.evaluate.Evaluating.the-variants.{Number, Refused as Handed}
+use Rattle.evaluating.specs.declared.evaluate.Evaluating.{Evaluating}
+use Rattle.evaluating.specs.declared.evaluate.Evaluating.the-variants.{Number, Refused as Handed}
 use Rattle.graph.specs.Compile.{tagAt, positionsOf}
 use Rattle.rows.specs.Rows.{tagIn, rowsIn}
 use Rattle.rows.specs.Written.{Wrote}

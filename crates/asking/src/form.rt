@@ -1,11 +1,11 @@
 // A model checked, its form's order, and its number at a point.
 use direct::evaluate::evaluate_in;
+use evaluating::evaluate::Evaluating;
+use evaluating::evaluate::evaluate_at;
 use float::bits::float_of;
 use graph::computation_graph::CompiledGraph;
 use graph::computation_graph::Compiling;
 use graph::computation_graph::compile;
-use graph::evaluate::Evaluating;
-use graph::evaluate::evaluate_at;
 use model::implicit_model::Model;
 use model_bytes::decode::decode;
 use opened::opened;
@@ -19,7 +19,7 @@ ghost use Prim.Native.Nat.{_*_, _≤_};
 ghost use lib.ListN.{length};
 ghost use Rattle.model.specs.View.{rows};
 ghost use Rattle.graph.specs.Compile.{tagAt};
-ghost use Rattle.graph.specs.Evaluate.{pointOf, Workable};
+ghost use Rattle.evaluating.specs.Evaluate.{pointOf, Workable};
 ghost use Rattle.component_layout.specs.Components.{number};
 ghost use Rattle.rows.specs.Rows.{rowsIn};
 ghost use Rattle.rows.specs.Written.{Wrote};

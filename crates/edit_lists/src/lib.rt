@@ -6,7 +6,7 @@ use storing::store::put_model;
 use storing::store::tell_7;
 use storing::store::tell_done;
 use storing::store::tell_reply;
-ghost use Rattle.graph.specs.Evaluate.{pointOf};
+ghost use Rattle.evaluating.specs.Evaluate.{pointOf};
 ghost use Rattle.component_layout.specs.Components.{number};
 ghost use Rattle.edit_rows.specs.EditRows.{editsOf};
 ghost use Rattle.edit_lists.specs.Lists.{Begun, AskedAfter};

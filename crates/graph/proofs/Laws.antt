@@ -1,12 +1,7 @@
--- `Order`: any wires: closure, stuck means cyclic, an order has no cycle. `Wires`: the wires in an array, and laying. `Line`: meeting nodes, and the reach.
--- `Node`: the node of a tag. `Places`: what stands in a list. `Names`: what nodes show of the tags that they stand for. `Drawing`: the numbers of the slots, and the wires made of them. `Least`: the least tag that the lists show. `Answer`: what compile answers. `Along`: the numbers along an order, and what evaluate_at answers.
-pub mod Order
-pub mod Wires
-pub mod Line
+-- `Node`: the node of a tag. `Places`: what stands in a list. `Names`: what nodes show of the tags that they stand for. `Drawing`: the numbers of the slots, and the wires made of them. `Least`: the least tag that the lists show. `Answer`: what compile answers.
 pub mod Node
 pub mod Places
 pub mod Names
 pub mod Drawing
 pub mod Least
 pub mod Answer
-pub mod Along

@@ -17,7 +17,7 @@ use Rattle.model.specs.View.{componentsOf, view, passes}
 use Rattle.graph.specs.declared.computation_graph.Compiling.{Compiling}
 use Rattle.graph.specs.declared.computation_graph.Compiling.the-variants.{Ordered, Refused}
 use Rattle.graph.specs.declared.computation_graph.CompiledGraph.{CompiledGraph}
-use Rattle.graph.specs.Nodes.{Copied}
+use Rattle.nodes.specs.Nodes.{Copied}
 use Rattle.graph.specs.Wiring.{placeWant, settled}
 
 -- the count in an answer; a refused compile has 0

@@ -1,15 +1,13 @@
 // The compiled form: an order of its components, inputs ahead of users.
 use crate::least::least_absent;
 use crate::least::least_gap;
-use crate::nodes::all_whole;
-use crate::nodes::lay;
-use crate::nodes::reach;
 use crate::wiring::component_keys;
 use crate::wiring::resolve;
 use crate::wiring::target_node;
 use crate::wiring::wires;
 use model::implicit_model::Model;
 use model::model_error::ModelError;
+use nodes::lay_out;
 use tag::Tag;
 use validity::is_valid;
 ghost use mathlib.Core.Path.{_≡_};
@@ -18,7 +16,7 @@ ghost use lib.ListN.{length};
 ghost use Rattle.tag.specs.Tags.{overlong};
 ghost use Rattle.tag.specs.View.{bytesOf};
 ghost use Rattle.model.specs.View.{passes};
-ghost use Rattle.graph.specs.Nodes.{Copied};
+ghost use Rattle.nodes.specs.Nodes.{Copied};
 ghost use Rattle.graph.specs.Compile.{Stopped, Placing, CompilesAs};
 
 // How compile ended: with an order of so many, or refused.
@@ -108,17 +106,15 @@ fn ordered(m: Model, t: Tag) -> CompiledGraph
     }
     let found = resolve(m, &keys);
     let w = wires(&found, tag::at_most(m.list_count, 128));
-    let s = reach(&w, x);
-    let line = s.at;
-    let seen = s.seen;
-    let o = lay(&w, &line, s.n, &seen, x);
+    let o = lay_out(&w, x);
     if !o.done {
         return refused(ModelError::CyclicDependency, t, 0);
     }
     let at = o.at;
-    if all_whole(&w, &line, s.n, &seen) {
+    if o.whole {
         return placed(&at, o.n, &w);
     }
+    let seen = o.seen;
     let a = least_absent(m, &found, &seen);
     if a.some {
         let u = a.tag;

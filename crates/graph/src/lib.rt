@@ -1,6 +1,4 @@
-// The order of a form, and its number at a point.
+// The order of a form.
 pub mod computation_graph;
-pub mod evaluate;
 mod least;
-mod nodes;
 mod wiring;

@@ -1,10 +1,10 @@
 // A line run on a model, and its answer.
 use edit_commands::edited;
+use evaluating::evaluate::Evaluating;
 use float::bits::bits_of;
 use geometry::vec3f::Vec3;
 use graph::computation_graph::CompiledGraph;
 use graph::computation_graph::Compiling;
-use graph::evaluate::Evaluating;
 use model::implicit_model::Model;
 use model::model_error::Ending;
 use model::model_error::ModelError;
@@ -98,7 +98,7 @@ fn compile(out: &mut [u8], m: Model, target: &[u8]) -> usize {
 }
 
 fn evaluate_at(out: &mut [u8], m: Model, target: &[u8], p: Vec3) -> usize {
-    let v = graph::evaluate::evaluate_at(m, target, p.x, p.y, p.z);
+    let v = evaluating::evaluate::evaluate_at(m, target, p.x, p.y, p.z);
     let a = v.answer;
     let t = v.tag;
     match a {

@@ -13,8 +13,8 @@ use Rattle.model.specs.Model.{Same}
 use Rattle.model.specs.Edit.{Edit}
 use Rattle.model.specs.Form.{Compiles, Number, Reply, bits, handed, Evaluated}
 use Rattle.model.specs.View.{view, passes}
-use Rattle.graph.specs.declared.evaluate.Evaluating.the-variants.{Number as Answered}
-use Rattle.graph.specs.Evaluate.{replyOf}
+use Rattle.evaluating.specs.declared.evaluate.Evaluating.the-variants.{Number as Answered}
+use Rattle.evaluating.specs.Evaluate.{replyOf}
 use Rattle.steady.specs.declared.AfterList.{AfterList}
 use Rattle.steady.specs.Lists.{after, newest, Sparing}
 

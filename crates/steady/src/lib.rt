@@ -4,13 +4,13 @@ mod newest;
 mod row;
 
 use edit_rows::edit_row::are_edits;
-use graph::evaluate::Evaluating;
-use graph::evaluate::Evaluation;
-use graph::evaluate::evaluate_at;
+use evaluating::evaluate::Evaluating;
+use evaluating::evaluate::Evaluation;
+use evaluating::evaluate::evaluate_at;
 use layout::words::read_text;
 use model::implicit_model::Model;
 use model::model_error::ModelError;
-ghost use Rattle.graph.specs.Evaluate.{EvaluatesAs, pointOf};
+ghost use Rattle.evaluating.specs.Evaluate.{EvaluatesAs, pointOf};
 ghost use Rattle.edit_rows.specs.EditRows.{editsOf};
 ghost use Rattle.steady.specs.Steadied.{After};
 ghost use Rattle.steady.specs.Steps.{tagAt};

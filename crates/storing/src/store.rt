@@ -1,7 +1,7 @@
 // How a call on a model ends: the report, and the model after it.
 use edit::Edited;
-use graph::evaluate::Evaluating;
-use graph::evaluate::Evaluation;
+use evaluating::evaluate::Evaluating;
+use evaluating::evaluate::Evaluation;
 use model::implicit_model::Model;
 use model::model_error::Answer;
 use model::model_error::Ending;
@@ -14,7 +14,7 @@ ghost use mathlib.Core.List.{[]};
 ghost use Rattle.tag.specs.View.{bytesOf};
 ghost use Rattle.model.specs.Edit.{refused, done as edit-done, made as edit-made};
 ghost use Rattle.model.specs.Answer.{answerOf};
-ghost use Rattle.graph.specs.Evaluate.{replyOf};
+ghost use Rattle.evaluating.specs.Evaluate.{replyOf};
 ghost use Rattle.storing.specs.Steps.{Told, Replied, Written, Stored};
 
 fn wide(x: u32) -> u64

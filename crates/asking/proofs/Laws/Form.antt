@@ -21,11 +21,11 @@ use Rattle.held.proofs.Laws.Rows.{no-entry, rows-length, rows-at}
 use Rattle.graph.specs.declared.computation_graph.Compiling.{Compiling}
 use Rattle.graph.specs.declared.computation_graph.Compiling.the-variants.{Ordered, Refused}
 use Rattle.graph.specs.declared.computation_graph.CompiledGraph.{CompiledGraph}
-use Rattle.graph.specs.declared.evaluate.Evaluating.{Evaluating}
-use Rattle.graph.specs.declared.evaluate.Evaluating.the-variants.{Number, Refused as Handed}
-use Rattle.graph.specs.declared.evaluate.Evaluation.{Evaluation}
+use Rattle.evaluating.specs.declared.evaluate.Evaluating.{Evaluating}
+use Rattle.evaluating.specs.declared.evaluate.Evaluating.the-variants.{Number, Refused as Handed}
+use Rattle.evaluating.specs.declared.evaluate.Evaluation.{Evaluation}
 use Rattle.graph.specs.Compile.{countOf, endingOf, tagAt, positionsOf, CompilesAs}
-use Rattle.graph.specs.Evaluate.{pointOf, replyOf, EvaluatesAs, Workable}
+use Rattle.evaluating.specs.Evaluate.{pointOf, replyOf, EvaluatesAs, Workable}
 use Rattle.layout.proofs.Kept.{kept-none}
 use Rattle.rows.specs.Rows.{tagIn, rowsIn}
 use Rattle.rows.specs.Written.{Wrote}

@@ -16,7 +16,7 @@ use Rattle.model.specs.Edit.{Edit, done, refused}
 use Rattle.model.specs.Form.{Compiles, Number, Reply, bits, handed, Evaluated}
 use Rattle.model.specs.View.{view, passes}
 use Rattle.held.specs.Reading.{New}
-use Rattle.graph.specs.Evaluate.{replyOf, pointOf}
+use Rattle.evaluating.specs.Evaluate.{replyOf, pointOf}
 use Rattle.model_bytes.specs.declared.decode.Decoded.{Decoded}
 use Rattle.model_bytes.specs.ModelBytes.{modelIn}
 use Rattle.model_bytes.specs.Calls.{Decodes}

@@ -32,12 +32,12 @@ use Rattle.held.proofs.Laws.Standing.{Standing, standing, passes-valid}
 use Rattle.graph.specs.declared.least.Best.{Best}
 use Rattle.graph.specs.declared.computation_graph.Compiling.{Compiling}
 use Rattle.graph.specs.declared.computation_graph.CompiledGraph.{CompiledGraph}
-use Rattle.graph.specs.Nodes.{_∈_, Circular, IsOrder, inputsOf, IsReach, filledOf, wholeOf}
+use Rattle.nodes.specs.Nodes.{_∈_, Circular, IsOrder, inputsOf, IsReach, filledOf, wholeOf}
 use Rattle.graph.specs.Wiring.{look, placeWant, wantOf, nodeOf, settled, slots, Resolved, Wired}
 use Rattle.graph.specs.Least.{LeastOf, AbsentShown, GapShown}
 use Rattle.graph.specs.Compile.{countOf, endingOf, tagAt, positionsOf, CompilesAs, Stopped, Placing}
-use Rattle.graph.proofs.Laws.Order.{laid-length, order-acyclic}
-use Rattle.graph.proofs.Laws.Wires.{upTo, length-upTo, mem-upTo}
+use Rattle.nodes.proofs.Laws.Order.{laid-length, order-acyclic}
+use Rattle.nodes.proofs.Laws.Wires.{upTo, length-upTo, mem-upTo}
 use Rattle.graph.proofs.Laws.Node.{node-within, nameOf, Seat, component-at, list-at, nowhere, seat, name-node, node-none, node-component, absent-node, node-absent, listed-node, list-row, entry-row, unlisted}
 use Rattle.graph.proofs.Laws.Places.{want-names, names-want, gap-want}
 use Rattle.graph.proofs.Laws.Names.{Drawn, node-of, wired-node, reach-down, reach-up, cyclic-down, cyclic-up, order-up}

@@ -14,10 +14,10 @@ use Rattle.model.specs.Form.{Wire, Reach, here, along, Cyclic, Placed, start, t
 use Rattle.model.specs.View.{view}
 use Rattle.model.proofs.Laws.Reach.{reach-on}
 use Rattle.held.proofs.Laws.Standing.{Standing}
-use Rattle.graph.specs.Nodes.{_∈_, Reaches, itself, wired, Circular, IsOrder, inputsOf}
+use Rattle.nodes.specs.Nodes.{_∈_, Reaches, itself, wired, Circular, IsOrder, inputsOf}
 use Rattle.graph.specs.Wiring.{Want, look, fixed, placeWant, nodeOf, settled}
-use Rattle.graph.proofs.Laws.Order.{by-placing}
-use Rattle.graph.proofs.Laws.Wires.{entry-cases, entry-0, entry-1, entry-2}
+use Rattle.nodes.proofs.Laws.Order.{by-placing}
+use Rattle.nodes.proofs.Laws.Wires.{entry-cases, entry-0, entry-1, entry-2}
 use Rattle.graph.proofs.Laws.Node.{nameOf, name-node, node-none}
 use Rattle.graph.proofs.Laws.Places.{want-names, names-want, want-fixed}
 

@@ -13,9 +13,9 @@ use Rattle.model.specs.declared.implicit_model.Model.{Model as Record}
 use Rattle.model.specs.Edit.{Edit}
 use Rattle.model.specs.Form.{Reply, handed}
 use Rattle.model.specs.declared.model_error.ModelError.the-variants.{InvalidModel}
-use Rattle.graph.specs.declared.evaluate.Evaluating.the-variants.{Refused as Handed}
-use Rattle.graph.specs.declared.evaluate.Evaluation.{Evaluation}
-use Rattle.graph.specs.Evaluate.{EvaluatesAs, replyOf}
+use Rattle.evaluating.specs.declared.evaluate.Evaluating.the-variants.{Refused as Handed}
+use Rattle.evaluating.specs.declared.evaluate.Evaluation.{Evaluation}
+use Rattle.evaluating.specs.Evaluate.{EvaluatesAs, replyOf}
 use Rattle.layout.specs.Some.{isSome}
 use Rattle.edit_rows.specs.EditRows.{editsOf}
 use Rattle.steady.specs.Steadied.{Promised, Refused, Steadied, After}

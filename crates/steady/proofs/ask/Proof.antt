@@ -2,7 +2,7 @@
 use borrow.Author.Needs.{needs}
 use mathlib.Core.Path.{sym, _∙_, subst}
 use Rattle.tag.specs.Tags.{Tag}
-use Rattle.graph.specs.Evaluate.{EvaluatesAs}
+use Rattle.evaluating.specs.Evaluate.{EvaluatesAs}
 use Rattle.steady.proofs.Laws.Row.{tag-first, tag-later}
 use Rattle.steady.proofs.ask.Statement.{statement}
 use Rattle.steady.proofs.ask.Tie as tie

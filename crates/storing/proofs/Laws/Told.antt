@@ -13,10 +13,10 @@ use Rattle.model.specs.declared.model_error.Ending.the-variants.{Done, Made as 
 use Rattle.model.specs.declared.model_error.Answer.{Answer as AnswerRecord}
 use Rattle.model.specs.Edit.{done, made, refused}
 use Rattle.model.specs.Answer.{numberOf, endingOf, answerOf}
-use Rattle.graph.specs.declared.evaluate.Evaluating.{Evaluating}
-use Rattle.graph.specs.declared.evaluate.Evaluating.the-variants.{Number, Refused as Handed}
-use Rattle.graph.specs.declared.evaluate.Evaluation.{Evaluation}
-use Rattle.graph.specs.Evaluate.{replyOf}
+use Rattle.evaluating.specs.declared.evaluate.Evaluating.{Evaluating}
+use Rattle.evaluating.specs.declared.evaluate.Evaluating.the-variants.{Number, Refused as Handed}
+use Rattle.evaluating.specs.declared.evaluate.Evaluation.{Evaluation}
+use Rattle.evaluating.specs.Evaluate.{replyOf}
 use Rattle.report.specs.Report.{Report, reported}
 use Rattle.storing.specs.Steps.{Reported, Told, Replied}
 

@@ -1,0 +1,2 @@
+-- `Along`: the numbers along an order, and what evaluate_at answers.
+pub mod Along

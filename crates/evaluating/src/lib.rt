@@ -1,0 +1,2 @@
+// A form's number at a point.
+pub mod evaluate;
