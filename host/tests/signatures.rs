@@ -55,7 +55,7 @@ fn in_rust(argument: &str) -> Option<&'static str> {
 }
 
 fn of_the_crates() -> Signatures {
-    let sources = ["calls", "edit_lists", "asking", "showing", "showing_parameters", "boundary"]
+    let sources = ["adding_calls", "calls", "edit_lists", "asking", "showing", "showing_parameters", "boundary"]
         .map(|name| root().join("crates").join(name).join("src"));
     let files = sources.iter().flat_map(|folder| fs::read_dir(folder).unwrap());
     let texts = files.map(|file| fs::read_to_string(file.unwrap().path()).unwrap());

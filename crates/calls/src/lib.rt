@@ -1,2 +1,2 @@
-// What a host calls to make an edit of a model that it holds in bytes (docs/ABI.md).
+// What a host calls to change what a model holds that it has in bytes (docs/ABI.md); crate adding_calls has what adds to it.
 pub mod edits;

@@ -3,8 +3,8 @@ use mathlib.Core.Path.{ap}
 use borrow.Author.Needs.{needs}
 use Rattle.model.specs.Edit.{addConstant}
 use Rattle.direct_words.proofs.Laws.Direct.{takes-as, taken-made, not-taken}
-use Rattle.calls.proofs.edits.dw_add_constant.Statement.{statement}
-use Rattle.calls.proofs.edits.dw_add_constant.Tie as tie
+use Rattle.adding_calls.proofs.dw_add_constant.Statement.{statement}
+use Rattle.adding_calls.proofs.dw_add_constant.Tie as tie
 
 float-of-requires : tie.Need-float-of-requires
 float-of-requires c κs = search needs

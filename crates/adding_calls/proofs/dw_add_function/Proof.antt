@@ -3,8 +3,8 @@ use mathlib.Core.Path.{ap}
 use borrow.Author.Needs.{needs}
 use Rattle.model.specs.Edit.{addFunction}
 use Rattle.direct_words.proofs.Laws.Direct.{takes-as, taken-made, not-taken}
-use Rattle.calls.proofs.edits.dw_add_function.Statement.{statement}
-use Rattle.calls.proofs.edits.dw_add_function.Tie as tie
+use Rattle.adding_calls.proofs.dw_add_function.Statement.{statement}
+use Rattle.adding_calls.proofs.dw_add_function.Tie as tie
 
 function-of-requires : tie.Need-function-of-requires
 function-of-requires c κs = search needs

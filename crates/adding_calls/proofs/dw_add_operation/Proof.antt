@@ -5,8 +5,8 @@ use Rattle.component.specs.declared.model_component.Component.{Component}
 use Rattle.model.specs.Edit.{addOperation}
 use Rattle.edit_rows.specs.EditRows.{given as inputsGiven}
 use Rattle.direct_words.proofs.Laws.Direct.{takes-as, taken-made, not-taken}
-use Rattle.calls.proofs.edits.dw_add_operation.Statement.{statement}
-use Rattle.calls.proofs.edits.dw_add_operation.Tie as tie
+use Rattle.adding_calls.proofs.dw_add_operation.Statement.{statement}
+use Rattle.adding_calls.proofs.dw_add_operation.Tie as tie
 
 operation-of-requires : tie.Need-operation-of-requires
 operation-of-requires c κs = search needs

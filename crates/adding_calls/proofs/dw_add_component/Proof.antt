@@ -1,8 +1,8 @@
 -- `dw_add_component` meets its contract. Assumes nothing.
 use borrow.Author.Needs.{needs}
 use Rattle.direct_words.proofs.Laws.Direct.{taken-made, not-taken}
-use Rattle.calls.proofs.edits.dw_add_component.Statement.{statement}
-use Rattle.calls.proofs.edits.dw_add_component.Tie as tie
+use Rattle.adding_calls.proofs.dw_add_component.Statement.{statement}
+use Rattle.adding_calls.proofs.dw_add_component.Tie as tie
 
 add-component-in-of-requires : tie.Need-add-component-in-of-requires
 add-component-in-of-requires c κs = search needs
