@@ -1,0 +1,2 @@
+// Arithmetic on numbers of two words.
+pub mod product;
