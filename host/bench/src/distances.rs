@@ -7,6 +7,8 @@ use std::time::Instant;
 
 const PATTERNS: u64 = 20_000_000;
 const POINTS: usize = 4096;
+// more than a processor's branches learn by heart, and few enough for its caches
+const NEW_POINTS: usize = 65_536;
 const CALLS: usize = 2_000_000;
 const ROUNDS: usize = 15;
 
@@ -27,13 +29,17 @@ fn alike(a: f64, b: f64) -> bool {
 }
 
 /// ns a call, the best of some rounds
-fn time<F: FnMut(usize) -> f64>(mut call: F) -> f64 {
+fn time<F: FnMut(usize) -> f64>(call: F) -> f64 {
+    time_over(POINTS, call)
+}
+
+fn time_over<F: FnMut(usize) -> f64>(points: usize, mut call: F) -> f64 {
     let mut best = f64::MAX;
     for _ in 0..ROUNDS {
         let start = Instant::now();
         let mut sum = 0.0;
         for i in 0..CALLS {
-            sum += call(i % POINTS);
+            sum += call(i % points);
         }
         black_box(sum);
         best = best.min(start.elapsed().as_nanos() as f64 / CALLS as f64);
@@ -66,7 +72,7 @@ pub fn rows() {
         let x = f64::from_bits(random(&mut state));
         assert!(alike(unsafe { dw_root(x) }, x.sqrt()), "the root of {x:?} differs from the hardware's");
     }
-    let p: Vec<[f64; 3]> = (0..POINTS)
+    let p: Vec<[f64; 3]> = (0..NEW_POINTS)
         .map(|_| [coordinate(&mut state), coordinate(&mut state), coordinate(&mut state)])
         .collect();
     let centre = Vec3::new(0.5, -0.25, 1.0);
@@ -90,4 +96,8 @@ pub fn rows() {
     row("root, each on the last", chained, their_chained);
     row("sphere", time(|i| our_sphere(&p[i])), time(|i| their_sphere(&sphere, &p[i])));
     row("torus", time(|i| our_torus(&p[i])), time(|i| their_torus(&torus, &p[i])));
+    let (ours, theirs) = (time_over(NEW_POINTS, |i| our_torus(&p[i])), time_over(NEW_POINTS, |i| their_torus(&torus, &p[i])));
+    row("torus, 65,536 points", ours, theirs);
+    let (ours, theirs) = (time_over(NEW_POINTS, |i| unsafe { dw_root(x[i]) }), time_over(NEW_POINTS, |i| hardware_root(x[i])));
+    row("root, 65,536 numbers", ours, theirs);
 }
