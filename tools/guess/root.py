@@ -1,39 +1,41 @@
 #!/usr/bin/env python3
-"""The numbers of the guess at a root: the arms of `guess::root::pattern_sum`, and the coefficients of `float::root::near_root`.
+"""The numbers of the guess at a root: the arms of `square`, `inverse` and `root` in crate guess, and the coefficients of its
+`near_root`.
 
-A positive double x with the pattern b has about the inverse root y whose pattern is the sum less b / 2. Of each of the 128
-stretches of numbers that agree in the exponent's last bit and the first six digits, the sum is the one for which x * y * y - 1 stays
-nearest to 0. The polynomial meets ((1 + e)^(-1/2) - 1) / e at five points in the range that is left for e.
+The numbers from a half to 2 fall into 256 stretches, by the exponent's last bit and the first seven digits. Of each, the number
+taken is the square of one with 26 digits, so that both are doubles; of those near the stretch's middle, the one whose inverse
+a double meets best. The polynomial meets ((1 + v)^(1/2) - 1) / v at five points in the range that is left for v.
 """
+import math
 import struct
 from decimal import Decimal, getcontext
+from fractions import Fraction
 
 getcontext().prec = 60
-BASE, DIGITS, PARTS = 0x5FE0_0000_0000_0000, 46, 16
+START, DIGITS, STRETCHES = 0x3FE0_0000_0000_0000, 45, 256
+SCALE, TRIED = 1 << 25, 400
 
 
 def double(pattern):
     return struct.unpack("<d", struct.pack("<Q", pattern))[0]
 
 
-def stretch(i):
-    """Patterns from one end of a stretch to the other. The exponent 1023 is odd: the numbers from 1 to 2."""
-    low = ((1023 if i >> 6 else 1024) << 52) | (i & 63) << DIGITS
-    patterns = [low + (k << DIGITS) // PARTS for k in range(PARTS + 1)]
-    return patterns[:-1] + [patterns[-1] - 1]
+def ends(i):
+    return double(START + (i << DIGITS)), double(START + ((i + 1) << DIGITS))
 
 
-def ends(patterns, total):
-    errors = [double(b) * double(total - b // 2) ** 2 - 1 for b in patterns]
-    return min(errors), max(errors)
-
-
-def best(patterns):
-    low, high = BASE, BASE + (1 << 52)
-    while high - low > 1:
-        middle = (low + high) // 2
-        low, high = (low, middle) if sum(ends(patterns, middle)) > 0 else (middle, high)
-    return low
+def node(i):
+    """The square, its inverse rounded, and its root."""
+    low, high = ends(i)
+    middle = round(math.sqrt((low + high) / 2) * SCALE)
+    found = []
+    for k in range(middle - TRIED, middle + TRIED + 1):
+        square = Fraction(k, SCALE) ** 2
+        inverse = float(1 / square)
+        found.append((abs(Fraction(inverse) * square - 1), square, inverse, Fraction(k, SCALE)))
+    _, square, inverse, root = min(found)
+    assert Fraction(float(square)) == square and Fraction(float(root)) == root
+    return square, inverse, root
 
 
 def cosine(x):
@@ -62,15 +64,16 @@ def polynomial(f, low, high, degree):
 
 
 def main():
-    stretches = [stretch(i) for i in range(128)]
-    sums = [best(patterns) for patterns in stretches]
-    for i, total in enumerate(sums):
-        print(f"        {i if i < 127 else '_'} => 0x{(total - BASE + (1 << 35)) >> 36:04x},")
-    reach = max(max(-low, high) for low, high in (ends(p, t) for p, t in zip(stretches, sums)))
+    nodes = [node(i) for i in range(STRETCHES)]
+    for name, part in ("square", 0), ("inverse", 1), ("root", 2):
+        print(name)
+        for i, numbers in enumerate(nodes):
+            print(f"        {i if i < STRETCHES - 1 else '_'} => {float(numbers[part])!r},")
+    reach = float(max(abs(Fraction(end) / nodes[i][0] - 1) for i in range(STRETCHES) for end in ends(i)))
     # not quite even about 0, so that no point is 0 itself
     low, high = -Decimal(reach) - Decimal("1e-9"), Decimal(reach) * Decimal("1.0001") + Decimal("1e-9")
-    print("e within", reach)
-    print(*(float(c) for c in polynomial(lambda x: ((1 - x) ** Decimal("-0.5") - 1) / x, low, high, 4)))
+    print("v within", reach)
+    print(*(float(c) for c in polynomial(lambda x: ((1 + x).sqrt() - 1) / x, low, high, 4)))
 
 
 main()

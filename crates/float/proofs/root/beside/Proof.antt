@@ -1,48 +1,56 @@
--- `float::root::beside` meets its contract: what `is_root` or `pattern` promises. Assumes nothing.
+-- `float::root::beside` meets its contract: what `are_digits` or `pattern` promises. Assumes nothing.
 use mathlib.Core.Path.{sym, subst}
-use Prim.Native.Nat.{_+_, _-_}
+use Prim.Native.Nat.{_*_}
 use native.Mathlib.Omega.{arith}
 use borrow.Author.Needs.{needs}
 use lib.Dec.{T}
+use Rattle.float.specs.Units.{val}
+use Rattle.float.specs.Pattern.{RootPattern}
 use Rattle.float.proofs.Laws.RootValues.{no-nan-bits, pattern-root}
 use Rattle.float.proofs.root.beside.Statement.{statement}
 use Rattle.float.proofs.root.beside.Tie as tie
 
-add-is-root : tie.Need-add-is-root
-add-is-root c = search needs
+add-are-digits : tie.Need-add-are-digits
+add-are-digits c = search needs
 
-is-root-requires : tie.Need-is-root-requires
-is-root-requires c κs = search needs
+are-digits-requires : tie.Need-are-digits-requires
+are-digits-requires c κs = search needs
 
-add-result : tie.Need-add-result
-add-result c = search needs
+add-with-digits : tie.Need-add-with-digits
+add-with-digits c = search needs
+
+with-digits-requires : tie.Need-with-digits-requires
+with-digits-requires c κs = search needs
 
 float-from-bits-result : tie.Need-float-from-bits-result
-float-from-bits-result c = no-nan-bits (c .before .before .before .before .before .args .c + 1) (omega (arith, c .before .is-root .ensures (subst T (sym (c .if4 .taken)) tt) .hi))
+float-from-bits-result c = no-nan-bits (c .with-digits .result) (omega (arith, c .with-digits .ensures, c .before .before .are-digits .ensures (subst T (sym (c .before .if4 .taken)) tt) .hi))
 
 returns : tie.Need-returns
 returns c =
-    let s = c .before .before .before .before .before in
-    pattern-root (s .args .b) (s .args .c + 1) (s .pre .0) (s .pre .1) (c .before .is-root .ensures (subst T (sym (c .if4 .taken)) tt))
+    let s = c .before .before .before .before .before .before in
+    pattern-root (s .args .b) (c .with-digits .result) (s .pre .0) (s .pre .1)
+    (subst (RootPattern (val (s .args .b) * 4503599627370496)) (sym (c .with-digits .ensures)) (c .before .before .are-digits .ensures (subst T (sym (c .before .if4 .taken)) tt)))
 
-sub-is-root : tie.Need-sub-is-root
-sub-is-root c = search needs
+sub-are-digits : tie.Need-sub-are-digits
+sub-are-digits c = search needs
 
-is-root-requires-2 : tie.Need-is-root-requires-2
-is-root-requires-2 c κs = search needs
+are-digits-requires-2 : tie.Need-are-digits-requires-2
+are-digits-requires-2 c κs = search needs
 
-sub-result : tie.Need-sub-result
-sub-result c = search needs
+sub-with-digits : tie.Need-sub-with-digits
+sub-with-digits c = search needs
+
+with-digits-requires-2 : tie.Need-with-digits-requires-2
+with-digits-requires-2 c κs = search needs
 
 float-from-bits-result-2 : tie.Need-float-from-bits-result-2
-float-from-bits-result-2 c =
-    let s = c .before .before .before .before .before .before .before in
-    no-nan-bits (s .args .c - 1) (omega (arith, c .before .is-root2 .ensures (subst T (sym (c .if5 .taken)) tt) .hi))
+float-from-bits-result-2 c = no-nan-bits (c .with-digits2 .result) (omega (arith, c .with-digits2 .ensures, c .before .before .are-digits2 .ensures (subst T (sym (c .before .if5 .taken)) tt) .hi))
 
 returns-2 : tie.Need-returns-2
 returns-2 c =
-    let s = c .before .before .before .before .before .before .before in
-    pattern-root (s .args .b) (s .args .c - 1) (s .pre .0) (s .pre .1) (c .before .is-root2 .ensures (subst T (sym (c .if5 .taken)) tt))
+    let s = c .before .before .before .before .before .before .before .before in
+    pattern-root (s .args .b) (c .with-digits2 .result) (s .pre .0) (s .pre .1)
+    (subst (RootPattern (val (s .args .b) * 4503599627370496)) (sym (c .with-digits2 .ensures)) (c .before .before .are-digits2 .ensures (subst T (sym (c .before .if5 .taken)) tt)))
 
 pattern-requires : tie.Need-pattern-requires
 pattern-requires c κs = search needs
@@ -57,14 +65,16 @@ pub beside-spec : {M : Type 1} → statement M
 beside-spec =
     tie.close
     (tie.spec
-    add-is-root
-    is-root-requires
-    add-result
+    add-are-digits
+    are-digits-requires
+    add-with-digits
+    with-digits-requires
     float-from-bits-result
     returns
-    sub-is-root
-    is-root-requires-2
-    sub-result
+    sub-are-digits
+    are-digits-requires-2
+    sub-with-digits
+    with-digits-requires-2
     float-from-bits-result-2
     returns-2
     pattern-requires
