@@ -55,8 +55,18 @@ fn in_rust(argument: &str) -> Option<&'static str> {
 }
 
 fn of_the_crates() -> Signatures {
-    let sources = ["adding_calls", "calls", "edit_lists", "asking", "showing", "showing_parameters", "boundary"]
-        .map(|name| root().join("crates").join(name).join("src"));
+    let sources = [
+        "adding_calls",
+        "calls",
+        "edit_lists",
+        "asking",
+        "compiling",
+        "checking",
+        "showing",
+        "showing_parameters",
+        "boundary",
+    ]
+    .map(|name| root().join("crates").join(name).join("src"));
     let files = sources.iter().flat_map(|folder| fs::read_dir(folder).unwrap());
     let texts = files.map(|file| fs::read_to_string(file.unwrap().path()).unwrap());
     texts.flat_map(|text| signatures(&text, "pub extern \"C\" fn ", in_rattle)).collect()

@@ -13,11 +13,11 @@ MODULES = {1: 'One', 2: 'Two', 3: 'Three', 7: 'Seven'}
 EDITS = [
     ('add_constant', 'adding', 'tag:slice value:number', 'addConstant {tag} {value}'),
     ('add_function', 'adding', 'tag:slice c:component', 'addFunction {tag} {c}'),
-    ('add_operation', 'adding', 'tag:slice c:component given:truth n:size a:slice b:slice d:slice',
+    ('add_operation', 'adding_operation', 'tag:slice c:component given:truth n:size a:slice b:slice d:slice',
      'addOperation {tag} {c} (inputsOf {given} {n} {a} {b} {d})'),
-    ('add_component', 'adding', 'tag:slice c:component', 'addComponent {tag} {c}'),
+    ('add_component', 'adding_component', 'tag:slice c:component', 'addComponent {tag} {c}'),
     ('add_input', 'wiring', 'target:slice source:slice index:size', 'addInput {target} {source} {index}'),
-    ('remove_input', 'wiring', 'tag:slice index:size', 'removeInput {tag} {index}'),
+    ('remove_input', 'unwiring', 'tag:slice index:size', 'removeInput {tag} {index}'),
     ('remove_component', 'removing', 'tag:slice', 'removeComponent {tag}'),
     ('rename_component', 'renaming', 'old:slice new:slice', 'renameComponent {old} {new}'),
     ('set_parameter', 'setting', 'tag:slice name:slice data:parameter', 'setParameter {tag} {name} {data}'),
@@ -98,7 +98,7 @@ def proof(name, crate, params, definition):
     kinds = [f'slice {slices.index(param)} tt' if kind == 'slice' else kind for param, kind in params]
     held = {param: f"(now ({part('a', i)}))" if kind == 'slice' else f"({part('a', i)})" for i, (param, kind) in enumerate(params)}
     write(f'{name}/Proof.antt', 'proof.txt', dict(
-        name=name, dashed=name.replace('_', '-'), crate=crate, words=counted(len(params)), module=MODULES[len(params)],
+        name=name, dashed=name.replace('_', '-'), crate=crate, called=crate.replace('_', '-'), words=counted(len(params)), module=MODULES[len(params)],
         slices=len(slices), lifetimes=len(slices) + 1, passed=listed(kinds), kinds=spaced(f'({kind})' if ' ' in kind else kind for kind in kinds),
         kind_uses=', '.join(sorted({kind for _, kind in params})), what=definition.format(**held), definition=definition.split()[0],
         more_uses='\nuse Rattle.input_rows.specs.Inputs.{inputsOf}' if 'inputsOf' in definition else '',

@@ -1,21 +1,19 @@
--- The record with one component more, and with a list put. Definitions only.
+-- The record with one component more. Definitions only.
 use mathlib.Core.Path.{_≡_}
-use mathlib.Core.Bool.{Bool, true, false}
-use Prim.Native.Nat.{_+_}
-use lib.Dec.{leb}
+use mathlib.Core.Bool.{Bool, true}
+use mathlib.Core.List.{[]}
+use Prim.Native.Nat.{_+_, _<_, _≤_}
 use lib.ListN.{set}
 use Rattle.tag.specs.declared.Tag.{Tag as Label}
 use Rattle.tag.specs.Tags.{Tag}
+use Rattle.tag.specs.View.{bytesOf}
 use Rattle.component.specs.declared.model_component.Component.{Component}
-use Rattle.model.specs.declared.implicit_model.InputList.{InputList}
 use Rattle.model.specs.declared.implicit_model.Model.{Model as Record}
-use Rattle.held.specs.declared.find.Found.{Found}
-use Rattle.held.specs.declared.find.Found.the-variants.{At, Nothing}
-use Rattle.model.specs.Edit.{Edit, edit, addPlain}
+use Rattle.model.specs.Edit.{Edit, edit, addPlain, made}
 use Rattle.model.specs.View.{view}
 use Rattle.edit.specs.declared.Edited.{Edited}
+use Rattle.edit.specs.Ends.{Ends, Refused}
 use Rattle.edit.specs.Meets.{Meets}
-use Rattle.edit.specs.Rows.{withList}
 
 -- the component c under t, after the others, and the default d
 abbrev pub withMore : Record → Label → Component → Label → Record
@@ -27,22 +25,11 @@ withMore m t c d = record {
   default = record { assigned = true; tag = d };
 }
 
+-- so made, or refused with 15 where 64 components are held
+pub record Grew (m : Record) (t : Label) (c : Component) (d : Label) (r : Edited) : Type 0 where
+  pub full : 64 ≤ m .«component_count» → Refused m 15 [] 0 r
+  pub more : m .«component_count» < 64 → Ends (made (bytesOf t)) (withMore m t c d) r
+
 -- what both edits promise that are defined by `addPlain`
 abbrev pub Plainly : Tag → Component → Bool → Record → Edited → Type 0
 Plainly t c fits m r = (e : Edit) → edit e (view m) ≡ addPlain (view m) t c fits → Meets e m r
-
--- a new list is needed, and 128 exist
-abbrev pub noRoom : Record → Found → Bool
-noRoom m (At i) = false
-noRoom m Nothing = leb 128 (m .«list_count»)
-
--- the list over the one found, or after the others
-abbrev pub listPut : Record → InputList → Found → Record
-listPut m l (At i) = withList m i l
-listPut m l Nothing = record {
-  components = m .components;
-  «component_count» = m .«component_count»;
-  lists = set (m .lists) (m .«list_count») l;
-  «list_count» = m .«list_count» + 1;
-  default = m .default;
-}

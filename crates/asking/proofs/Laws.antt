@@ -1,2 +1,2 @@
--- `Form`: order and number.
+-- `Form`: a form's number.
 pub mod Form

@@ -1,3 +1,2 @@
--- `Laws`: what the functions' proofs cite. `Theorems`: what follows from the contracts.
+-- `Laws` is what the functions' proofs cite.
 mod Laws
-pub mod Theorems

@@ -1,10 +1,10 @@
 // The root and the two distances, for a host that checks or measures them. They touch no model.
-use geometry::sphere::Sphere;
-use geometry::torus::Torus;
 use geometry::vec3f::Vec3;
+use shapes::sphere::Sphere;
+use shapes::torus::Torus;
 ghost use mathlib.Core.Path.{_≡_};
 ghost use Rattle.float.specs.RootOf.{rootOf};
-ghost use Rattle.geometry.specs.Distance.{toSphere, toTorus};
+ghost use Rattle.shapes.specs.Distance.{toSphere, toTorus};
 
 #[no_mangle]
 pub extern "C" fn dw_root(x: f64) -> f64

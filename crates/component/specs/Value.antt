@@ -6,7 +6,7 @@ use lib.Ieee.{Float, fin, neg}
 use Rattle.float.specs.Extrema.{minimumNumber, maximumNumber}
 use Rattle.geometry.specs.declared.vec3f.Vec3.{Vec3}
 use Rattle.geometry.specs.Operations.{_⊕_, _⊖_, _⊗_, _⊘_}
-use Rattle.geometry.specs.Distance.{toSphere, toTorus}
+use Rattle.shapes.specs.Distance.{toSphere, toTorus}
 use Rattle.component.specs.declared.model_component.Component.{Component}
 use Rattle.component.specs.declared.model_component.Component.the-variants.{Constant, Sphere, Torus, Multiply, Add, Subtract, Divide, Lerp, VariableLerp, Remap, BooleanUnion, BooleanIntersection, BooleanDifference, Offset, Thickness}
 

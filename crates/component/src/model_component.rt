@@ -2,9 +2,9 @@
 use crate::math;
 use crate::parameter::Data;
 use crate::shape;
-use geometry::sphere::Sphere;
-use geometry::torus::Torus;
 use geometry::vec3f::Vec3;
+use shapes::sphere::Sphere;
+use shapes::torus::Torus;
 ghost use mathlib.Core.Path.{_≡_};
 ghost use Rattle.component.specs.Value.{inputCount, compute};
 

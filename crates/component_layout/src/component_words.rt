@@ -1,9 +1,9 @@
 // A component, and what a parameter is set to, from a kind and words.
 use component::model_component::Component;
 use component::parameter::Data;
-use geometry::sphere::Sphere;
-use geometry::torus::Torus;
 use geometry::vec3f::Vec3;
+use shapes::sphere::Sphere;
+use shapes::torus::Torus;
 ghost use mathlib.Core.Path.{_≡_};
 ghost use Rattle.component_layout.specs.Components.{componentOf, componentFrom, dataFrom, componentRead, dataRead};
 

@@ -4,9 +4,9 @@ use crate::numbers::high;
 use crate::numbers::low;
 use crate::numbers::number;
 use component::model_component::Component;
-use geometry::sphere::Sphere;
-use geometry::torus::Torus;
 use geometry::vec3f::Vec3;
+use shapes::sphere::Sphere;
+use shapes::torus::Torus;
 
 pub struct Question {
     pub component: Component,

@@ -99,7 +99,7 @@ pub fn remove_input(model: &mut [u8], tag: &[u8], index: u64, out: &mut [u8]) ->
 {
     let d = decode(model);
     let m = d.model;
-    let r = wiring::remove_input(m, tag, index as usize);
+    let r = unwiring::remove_input(m, tag, index as usize);
     store(d.ok, r, model, out)
 }
 

@@ -1,13 +1,8 @@
-// `add_constant`, `add_function`, `add_operation` and `add_component`, made in the bytes of a model. A no changes nothing, and says nothing of the edit.
-mod free;
-mod put;
+// `add_constant` and `add_function`, made in the bytes of a model; and one component more, which every adding there ends with. A no changes nothing, and says nothing of the edit.
+pub mod put;
 
-use crate::free::free_tag_in;
 use crate::put::put_more;
-use crate::put::put_operation;
-use crate::put::row_for;
 use component::model_component::Component;
-use component::model_component::input_count;
 use finding::component_count;
 use finding::component_row_of;
 use standing::stands;
@@ -15,10 +10,9 @@ use tag::Tag;
 ghost use mathlib.Core.Path.{_≡_};
 ghost use mathlib.Core.Bool.{false};
 ghost use Rattle.tag.specs.View.{bytesOf};
-ghost use Rattle.model.specs.Edit.{addOperation, addConstant, addFunction, addComponent, made};
-ghost use Rattle.input_rows.specs.Inputs.{inputsOf};
+ghost use Rattle.model.specs.Edit.{addConstant, addFunction, made};
 ghost use Rattle.direct_rows.specs.Took.{Takes};
-ghost use Rattle.direct_adding.specs.Plain.{Plainly};
+ghost use Rattle.direct_adding.specs.Plain.{Grew, Plainly};
 
 // The tag that was made, where one was.
 pub struct Added {
@@ -26,7 +20,8 @@ pub struct Added {
     pub tag: Tag,
 }
 
-fn not_added() -> Added
+// Nothing is added, and nothing changed.
+pub fn not_added() -> Added
     ensures { λ r. ⌜ r .ok ≡ false ⌝ }
 {
     let none = tag::empty_tag();
@@ -34,6 +29,21 @@ fn not_added() -> Added
         ok: false,
         tag: none,
     }
+}
+
+// One component more, and the default d, where there is room. The tag is one that no component has.
+pub fn add_more_in(s: &mut [u8], t: Tag, c: Component, d: Tag) -> Added
+    ensures { λ r. ⌜ Grew t c d (now (s .entry)) (now (s .exit)) r ⌝ }
+{
+    if s.len() != 27200 {
+        return not_added();
+    }
+    let n = component_count(s);
+    if 64 <= n {
+        return not_added();
+    }
+    put_more(s, n, t, c, d);
+    Added { ok: true, tag: t }
 }
 
 // A component that takes no inputs, where its kind is the one asked for.
@@ -52,13 +62,8 @@ fn add_plain_in(s: &mut [u8], tag: &[u8], c: Component, fits: bool) -> Added
     if component_row_of(s, tag) < 64 {
         return not_added();
     }
-    let n = component_count(s);
-    if 64 <= n {
-        return not_added();
-    }
     let t = tag::tag_of(tag);
-    put_more(s, n, t, c, t);
-    Added { ok: true, tag: t }
+    add_more_in(s, t, c, t)
 }
 
 pub fn add_constant_in(s: &mut [u8], tag: &[u8], value: f64) -> Added
@@ -73,83 +78,4 @@ pub fn add_function_in(s: &mut [u8], tag: &[u8], c: Component) -> Added
 {
     let fits = component::kind::is_function(c);
     add_plain_in(s, tag, c, fits)
-}
-
-// `inputs` are none, or n tags of which the first three at most are looked at.
-pub fn add_operation_in(
-    s: &mut [u8],
-    tag: &[u8],
-    c: Component,
-    given: bool,
-    n: usize,
-    a: &[u8],
-    b: &[u8],
-    d: &[u8],
-) -> Added
-    ensures { λ r. ⌜ Takes (addOperation (now (tag .entry)) c (inputsOf given n (now (a .entry)) (now (b .entry)) (now (d .entry)))) (made (bytesOf (r .tag))) (now (s .entry)) (now (s .exit)) (r .ok) ⌝ }
-{
-    if 32 < tag.len() {
-        return not_added();
-    }
-    if input_rows::too_long(given, n, a, b, d) {
-        return not_added();
-    }
-    if !component::kind::is_operation(c) {
-        return not_added();
-    }
-    let k = input_count(c);
-    if !input_rows::inputs_fit(given, n, k) {
-        return not_added();
-    }
-    if !stands(s) {
-        return not_added();
-    }
-    if component_row_of(s, tag) < 64 {
-        return not_added();
-    }
-    let m = component_count(s);
-    if 64 <= m {
-        return not_added();
-    }
-    let t = tag::tag_of(tag);
-    let j = row_for(s, t);
-    if 128 <= j {
-        return not_added();
-    }
-    let row = input_rows::operation_row(t, given, k, a, b, d);
-    put_operation(s, m, j, c, row, t);
-    Added { ok: true, tag: t }
-}
-
-// The default becomes the tag asked for, also where a numbered one is made.
-pub fn add_component_in(s: &mut [u8], tag: &[u8], c: Component) -> Added
-    ensures { λ r. ⌜ Takes (addComponent (now (tag .entry)) c) (made (bytesOf (r .tag))) (now (s .entry)) (now (s .exit)) (r .ok) ⌝ }
-{
-    if 32 < tag.len() {
-        return not_added();
-    }
-    if !stands(s) {
-        return not_added();
-    }
-    let t = tag::tag_of(tag);
-    let u = free_tag_in(s, t);
-    if !u.fits {
-        return not_added();
-    }
-    let m = component_count(s);
-    if 64 <= m {
-        return not_added();
-    }
-    let v = u.tag;
-    if !component::kind::is_operation(c) {
-        put_more(s, m, v, c, t);
-        return Added { ok: true, tag: v };
-    }
-    let j = row_for(s, v);
-    if 128 <= j {
-        return not_added();
-    }
-    let row = input_rows::unassigned_row(v, input_count(c));
-    put_operation(s, m, j, c, row, t);
-    Added { ok: true, tag: v }
 }

@@ -1,5 +1,2 @@
--- `Parts`: what a row of a table is made of. `Swapping`: places that name a tag changed. `Swapped`: the model of the bytes with its places swapped. `Removing`: each way out of the edit.
-pub mod Parts
-pub mod Swapping
-pub mod Swapped
+-- `Removing`: each way out of the edit.
 pub mod Removing

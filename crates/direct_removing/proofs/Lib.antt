@@ -1,1 +1,2 @@
-pub mod Laws
+-- `Laws` is what the functions' proofs cite.
+mod Laws

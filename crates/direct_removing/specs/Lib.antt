@@ -1,2 +1,1 @@
-pub mod Swapping
 pub mod Removing

@@ -1,9 +1,7 @@
 // `remove_component` in the bytes of a model.
-pub mod swapping;
-
-use crate::swapping::swap_places;
 use component_layout::component_words::ComponentRead;
 use direct_rows::put::put_entry;
+use direct_swapping::swap_places;
 use finding::component_count;
 use finding::component_in_row;
 use finding::component_row_of;

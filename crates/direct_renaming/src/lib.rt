@@ -1,5 +1,5 @@
 // `rename_component` in the bytes of a model.
-use direct_removing::swapping::swap_places;
+use direct_swapping::swap_places;
 use finding::component_row_of;
 use finding::list_row_of;
 use model::implicit_model::Place;

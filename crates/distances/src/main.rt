@@ -1,8 +1,8 @@
 // Prints the distance from some points to a sphere, a dot and a torus: for reading, and by its bits.
 mod text;
 
-use geometry::sphere::Sphere;
-use geometry::torus::Torus;
+use shapes::sphere::Sphere;
+use shapes::torus::Torus;
 
 fn title() {
     io::write_all(

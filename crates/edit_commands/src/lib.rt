@@ -14,8 +14,8 @@ fn on_tag(m: Model, c: Command, t: Text, r: Arguments, line: &[u8]) -> Edited {
     match c {
         Command::AddConstant => adding::add_constant(m, tag, n[0]),
         Command::AddFunction => adding::add_function(m, tag, r.read_component(line)),
-        Command::AddComponent => adding::add_component(m, tag, r.read_component(line)),
-        Command::RemoveInput => wiring::remove_input(m, tag, r.index),
+        Command::AddComponent => adding_component::add_component(m, tag, r.read_component(line)),
+        Command::RemoveInput => unwiring::remove_input(m, tag, r.index),
         _ => removing::remove_component(m, tag),
     }
 }
@@ -40,7 +40,7 @@ fn on_four(m: Model, t: Text, i: Text, b: &[u8], d: &[u8], r: Arguments, line: &
     let c = r.read_component(line);
     let tag = first(&w, t.len);
     let a = first(&x, i.len);
-    adding::add_operation(m, tag, c, r.given, r.index, a, b, d)
+    adding_operation::add_operation(m, tag, c, r.given, r.index, a, b, d)
 }
 
 // The inputs j and k stand ahead of i: the proof finds the sizes of the first few.

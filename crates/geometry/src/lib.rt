@@ -1,4 +1,2 @@
-// Points and the two shapes, with the distance to each.
-pub mod sphere;
-pub mod torus;
+// Points, and the distance from one to another.
 pub mod vec3f;

@@ -1,7 +1,4 @@
--- `Node`: the node of a tag. `Places`: what stands in a list. `Names`: what nodes show of the tags that they stand for. `Drawing`: the numbers of the slots, and the wires made of them. `Least`: the least tag that the lists show. `Answer`: what compile answers.
-pub mod Node
-pub mod Places
+-- `Names`: what nodes show of the tags that they stand for. `Drawing`: the wires made of the numbers of the slots. `Answer`: what compile answers.
 pub mod Names
 pub mod Drawing
-pub mod Least
 pub mod Answer

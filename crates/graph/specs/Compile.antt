@@ -1,12 +1,13 @@
 -- Document 01's compile as a promise about the record that it answers with. Definitions only.
-use Prim.Native.Nat.{ℕ, _+_, _*_, _≤_, _<_}
+use Prim.Native.Nat.{ℕ, _+_, _*_, _≤_, _<_, min}
 use mathlib.Core.Path.{_≡_}
-use mathlib.Core.Bool.{true, false}
+use mathlib.Core.Bool.{Bool, true, false}
 use mathlib.Core.List.{List, [], map, List·Memᴰ}
 use lib.ListN.{length, getD, take}
-use Rattle.tag.specs.Tags.{Tag, empty}
+use Rattle.tag.specs.Tags.{Tag, empty, overlong}
 use Rattle.tag.specs.View.{bytesOf}
 use Rattle.tag.specs.declared.Tag.{Tag as Label}
+use Rattle.model.specs.declared.implicit_model.InputList.{InputList}
 use Rattle.model.specs.declared.implicit_model.Model.{Model as Record}
 use Rattle.model.specs.declared.model_error.ModelError.{ModelError}
 use Rattle.model.specs.declared.model_error.ModelError.the-variants.{InvalidModel}
@@ -17,8 +18,9 @@ use Rattle.model.specs.View.{componentsOf, view, passes}
 use Rattle.graph.specs.declared.computation_graph.Compiling.{Compiling}
 use Rattle.graph.specs.declared.computation_graph.Compiling.the-variants.{Ordered, Refused}
 use Rattle.graph.specs.declared.computation_graph.CompiledGraph.{CompiledGraph}
-use Rattle.nodes.specs.Nodes.{Copied}
-use Rattle.graph.specs.Wiring.{placeWant, settled}
+use Rattle.nodes.specs.Nodes.{LaysOut, Copied}
+use Rattle.resolving.specs.Slots.{placeWant, nodeOf, settled, Resolved}
+use Rattle.graph.specs.Wiring.{Wired}
 
 -- the count in an answer; a refused compile has 0
 abbrev pub countOf : Compiling → ℕ
@@ -63,3 +65,16 @@ pub record Placing (at : List ℕ) (n : ℕ) (w : List ℕ) (r : CompiledGraph) 
   pub index : r .index ≡ 0
   pub order : Copied 64 at (r .order)
   pub inputs : Copied 192 w (r .inputs)
+
+-- the form of a target that 7, 1 and 14 let pass: its slots resolved, its wires drawn, its reach laid out
+pub record Formed (no : InputList) (m : Record) (t : Tag) (found w at : List ℕ) (n : ℕ) (whole : Bool) (seen : List ℕ) : Type 0 where
+  pub fits : passes m ≡ true
+  pub short : overlong t ≡ false
+  pub node : nodeOf m t < 192
+  pub resolved : Resolved no m found
+  pub wires : Wired found (min (m .«list_count») 128) w
+  pub laid : LaysOut w (nodeOf m t) at n true whole seen
+
+-- an answer to every target that has this form
+abbrev pub Judged : InputList → Record → List ℕ → List ℕ → List ℕ → ℕ → List ℕ → CompiledGraph → Type 0
+Judged d m found w at n seen r = (t : Tag) → Formed d m t found w at n false seen → CompilesAs m t r

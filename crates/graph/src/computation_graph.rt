@@ -1,13 +1,13 @@
 // The compiled form: an order of its components, inputs ahead of users.
-use crate::least::least_absent;
-use crate::least::least_gap;
-use crate::wiring::component_keys;
-use crate::wiring::resolve;
-use crate::wiring::target_node;
 use crate::wiring::wires;
+use lacking::least::least_absent;
+use lacking::least::least_gap;
 use model::implicit_model::Model;
 use model::model_error::ModelError;
 use nodes::lay_out;
+use resolving::slots::component_keys;
+use resolving::slots::resolve;
+use resolving::slots::target_node;
 use tag::Tag;
 use validity::is_valid;
 ghost use mathlib.Core.Path.{_≡_};
@@ -16,8 +16,9 @@ ghost use lib.ListN.{length};
 ghost use Rattle.tag.specs.Tags.{overlong};
 ghost use Rattle.tag.specs.View.{bytesOf};
 ghost use Rattle.model.specs.View.{passes};
+ghost use Rattle.held.proofs.Laws.Rows.{no-list};
 ghost use Rattle.nodes.specs.Nodes.{Copied};
-ghost use Rattle.graph.specs.Compile.{Stopped, Placing, CompilesAs};
+ghost use Rattle.graph.specs.Compile.{Stopped, Placing, CompilesAs, Judged};
 
 // How compile ended: with an order of so many, or refused.
 pub enum Compiling {
@@ -93,6 +94,31 @@ fn placed(at: &[usize; 192], n: usize, w: &[usize; 576]) -> CompiledGraph
     }
 }
 
+// Compile after 7, 1 and 14, of a form that may lack something: 12, 13, or an order.
+fn placed_if_full(
+    m: Model,
+    found: &[usize; 512],
+    seen: &[u8; 192],
+    at: &[usize; 192],
+    n: usize,
+    w: &[usize; 576],
+) -> CompiledGraph
+    requires { ⌜ (length (now at) ≡ 192) × (length (now w) ≡ 576) ⌝ }
+    ensures { λ r. ⌜ Judged no-list m (now (found .entry)) (now (w .entry)) (now (at .entry)) n (now (seen .entry)) r ⌝ }
+{
+    let a = least_absent(m, found, seen);
+    if a.some {
+        let t = a.tag;
+        return refused(ModelError::MissingTag, t, 0);
+    }
+    let g = least_gap(m, found, seen);
+    if g.some {
+        let t = g.tag;
+        return refused(ModelError::MissingInput, t, g.index);
+    }
+    placed(at, n, w)
+}
+
 // Compile after 7 and 1: 14, 12, 13, or an order.
 fn ordered(m: Model, t: Tag) -> CompiledGraph
     requires { ⌜ (passes m ≡ true) × (overlong (bytesOf t) ≡ false) ⌝ }
@@ -115,17 +141,7 @@ fn ordered(m: Model, t: Tag) -> CompiledGraph
         return placed(&at, o.n, &w);
     }
     let seen = o.seen;
-    let a = least_absent(m, &found, &seen);
-    if a.some {
-        let u = a.tag;
-        return refused(ModelError::MissingTag, u, 0);
-    }
-    let g = least_gap(m, &found, &seen);
-    if g.some {
-        let u = g.tag;
-        return refused(ModelError::MissingInput, u, g.index);
-    }
-    placed(&at, o.n, &w)
+    placed_if_full(m, &found, &seen, &at, o.n, &w)
 }
 
 // The order in which the target's components are computed, or why there is none: 7, 1, 14, 12, 13.

@@ -1,4 +1,3 @@
 // The order of a form.
 pub mod computation_graph;
-mod least;
 mod wiring;

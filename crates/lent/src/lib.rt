@@ -36,7 +36,7 @@ pub fn add_operation(
 ) -> Answer
     ensures { λ r. ⌜ Meets (addOperation (now (tag .entry)) c (inputsOf given n (now (a .entry)) (now (b .entry)) (now (d .entry)))) (now (m .entry)) (record { answer = r; model = now (m .exit) }) ⌝ }
 {
-    let e = adding::add_operation(*m, tag, c, given, n, a, b, d);
+    let e = adding_operation::add_operation(*m, tag, c, given, n, a, b, d);
     *m = e.model;
     e.answer
 }
@@ -44,7 +44,7 @@ pub fn add_operation(
 pub fn add_component(m: &mut Model, tag: &[u8], c: Component) -> Answer
     ensures { λ r. ⌜ Meets (addComponent (now (tag .entry)) c) (now (m .entry)) (record { answer = r; model = now (m .exit) }) ⌝ }
 {
-    let e = adding::add_component(*m, tag, c);
+    let e = adding_component::add_component(*m, tag, c);
     *m = e.model;
     e.answer
 }
@@ -60,7 +60,7 @@ pub fn add_input(m: &mut Model, target: &[u8], source: &[u8], index: usize) -> A
 pub fn remove_input(m: &mut Model, tag: &[u8], index: usize) -> Answer
     ensures { λ r. ⌜ Meets (removeInput (now (tag .entry)) index) (now (m .entry)) (record { answer = r; model = now (m .exit) }) ⌝ }
 {
-    let e = wiring::remove_input(*m, tag, index);
+    let e = unwiring::remove_input(*m, tag, index);
     *m = e.model;
     e.answer
 }

@@ -2,8 +2,8 @@
 use component::model_component::Component;
 use component::model_component::Reading;
 use component::parameter::Data;
-use geometry::sphere::Sphere;
-use geometry::torus::Torus;
+use shapes::sphere::Sphere;
+use shapes::torus::Torus;
 use tag::bytes::same_bytes;
 ghost use mathlib.Core.Path.{_≡_};
 ghost use Rattle.component.specs.Parameter.{under, readParameter};

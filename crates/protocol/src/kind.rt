@@ -3,9 +3,9 @@ use crate::writing::put;
 use crate::writing::put_bits;
 use component::model_component::Component;
 use float::bits::bits_of;
-use geometry::sphere::Sphere;
-use geometry::torus::Torus;
 use geometry::vec3f::Vec3;
+use shapes::sphere::Sphere;
+use shapes::torus::Torus;
 use tag::bytes::same_bytes;
 
 // A component of the kind that a word names, or that it names none.

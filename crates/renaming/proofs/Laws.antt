@@ -1,3 +1,2 @@
--- `Moving`: the list of one tag moved to another. `Renaming`: each way out of the edit.
-pub mod Moving
+-- `Renaming`: each way out of the edit.
 pub mod Renaming

@@ -1,4 +1,4 @@
--- `Along`: what holds between two edits of the list, and the contract after the last. `Row`: one row as an edit. `Promise`: the contract.
+-- `Along`: what holds between two edits of the list, and the contract after the last. `Rows`: the rows of the list. `Promise`: the contract.
 pub mod Along
-pub mod Row
+pub mod Rows
 pub mod Promise

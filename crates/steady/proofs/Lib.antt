@@ -1,3 +1,2 @@
--- `Theorems` is for other crates and for docs/PROOFS.md; `Laws` is what the functions' proofs cite.
-pub mod Theorems
+-- `Laws` is what the functions' proofs cite.
 pub mod Laws

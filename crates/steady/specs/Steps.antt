@@ -1,43 +1,17 @@
--- What the helpers promise of one row of the list. Definitions only.
+-- What holds between two rows of a list of edits. Definitions only.
 use Prim.Native.Nat.{ℕ}
 use mathlib.Core.Path.{_≡_}
-use mathlib.Core.Bool.{true, false, cond}
+use mathlib.Core.Bool.{true, false}
 use mathlib.Core.List.{List, []}
 use mathlib.Core.Option.{some}
-use lib.Dec.{T, eqb}
+use lib.Dec.{T}
 use Rattle.tag.specs.Tags.{Tag}
 use Rattle.model.specs.declared.implicit_model.Model.{Model as Record}
 use Rattle.model.specs.Model.{Model, Same, valid}
 use Rattle.model.specs.View.{view, passes}
-use Rattle.model.specs.Edit.{Edit, Answer}
-use Rattle.model.specs.Answer.{answerOf}
-use Rattle.edit.specs.declared.Edited.{Edited}
-use Rattle.edit.specs.Meets.{Meets}
-use Rattle.layout.specs.Words.{text}
-use Rattle.edit_rows.specs.EditRows.{editAt, editsOf}
-use Rattle.steady.specs.Lists.{carried, after, newest}
-
--- the newest tag: the target that came in, or a string of the list of edits; no string stands at 0
-unfoldable pub tagAt : List ℕ → List ℕ → ℕ → Tag
-tagAt target s place = cond (eqb place 0) target (text s place)
-
--- the row is run by its contract, and is no rename
-pub record Runs (s : List ℕ) (at : ℕ) (m : Record) (r : Edited) : Type 0 where
-  pub meets : (e : Edit) → editAt s at ≡ some e → Meets e m r
-  pub stays : (e : Edit) → editAt s at ≡ some e → (a : Answer) (t : Tag) → carried e a t ≡ t
-
--- one edit more: m and the target t became n and u
-pub record Step (e : Edit) (m : Record) (t : Tag) (n : Record) (u : Tag) : Type 0 where
-  pub edited : Edited
-  pub meets : Meets e m edited
-  pub model : n ≡ edited .model
-  pub tag : u ≡ carried e (answerOf (edited .answer)) t
-
--- where the row is an edit, it is the next step
-abbrev pub Stepped : List ℕ → ℕ → Record → Tag → Record → Tag → Type 0
-Stepped s at m t n u = (e : Edit) → editAt s at ≡ some e → Step e m t n u
-
--- ---- between two rows
+use Rattle.model.specs.Edit.{Edit}
+use Rattle.edit_rows.specs.EditRows.{editsOf}
+use Rattle.steady.specs.Lists.{after, newest}
 
 -- the list es, begun on m with the target t, has `rest` left on the defined model, which w holds, with the target u
 pub record Along (es : List Edit) (m : Model) (t : Tag) (rest : List Edit) (w : Model) (u : Tag) : Type 0 where

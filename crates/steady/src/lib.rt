@@ -1,7 +1,5 @@
 // A list of edits run on a model, and the form asked after it.
 mod list;
-mod newest;
-mod row;
 
 use edit_rows::edit_row::are_edits;
 use evaluating::evaluate::Evaluating;
@@ -12,8 +10,8 @@ use model::implicit_model::Model;
 use model::model_error::ModelError;
 ghost use Rattle.evaluating.specs.Evaluate.{EvaluatesAs, pointOf};
 ghost use Rattle.edit_rows.specs.EditRows.{editsOf};
+ghost use Rattle.newest.specs.Place.{tagAt};
 ghost use Rattle.steady.specs.Steadied.{After};
-ghost use Rattle.steady.specs.Steps.{tagAt};
 
 // What the form answered, and the model after the list.
 pub struct AfterList {

@@ -1,8 +1,9 @@
 // A list of edits, run row by row.
-use crate::row::Run;
-use crate::row::run_row;
 use model::implicit_model::Model;
-ghost use Rattle.steady.specs.Steps.{tagAt, Listed};
+use row_running::Run;
+use row_running::run_row;
+ghost use Rattle.newest.specs.Place.{tagAt};
+ghost use Rattle.steady.specs.Steps.{Listed};
 
 // Every row run, each on the model that the one before left.
 pub(crate) fn run_list(m: Model, s: &[u8], target: &[u8]) -> Run

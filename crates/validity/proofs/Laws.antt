@@ -1,3 +1,2 @@
--- `Passes`: 7 as the code judges it. `Pairs`: two indices in one loop.
+-- `Passes`: 7 as the code judges it.
 pub mod Passes
-pub mod Pairs

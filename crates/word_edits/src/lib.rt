@@ -61,7 +61,7 @@ pub fn add_component_of(
 {
     let read = component_from(kind, a, b, c, d, e);
     if let ComponentRead::Component(found) = read {
-        return adding::add_component(m, tag, found);
+        return adding_component::add_component(m, tag, found);
     }
     adding::add_function(m, tag, Component::Multiply)
 }
@@ -79,7 +79,7 @@ pub fn add_operation_with(
     ensures { λ r. ⌜ Meets (addOperation (now (tag .entry)) op (given count (now (first .entry)) (now (second .entry)) (now (third .entry)))) m r ⌝ }
 {
     if count == 0 {
-        return adding::add_operation(m, tag, op, false, 0, first, second, third);
+        return adding_operation::add_operation(m, tag, op, false, 0, first, second, third);
     }
-    adding::add_operation(m, tag, op, true, (count - 1) as usize, first, second, third)
+    adding_operation::add_operation(m, tag, op, true, (count - 1) as usize, first, second, third)
 }

@@ -16,16 +16,16 @@ use Rattle.held.specs.declared.find.Found.{Found}
 use Rattle.held.specs.declared.find.Found.the-variants.{At, Nothing}
 use Rattle.model.specs.Table.{held}
 use Rattle.model.specs.Model.{Model}
-use Rattle.model.specs.Edit.{addConstant, addFunction, made, Outcome, edit, addPlain, full}
+use Rattle.model.specs.Edit.{addConstant, addFunction, Outcome, edit, addPlain}
 use Rattle.model.specs.View.{componentsOf, view, passes}
 use Rattle.held.specs.Search.{Sought}
 use Rattle.held.proofs.Laws.Standing.{standing}
 use Rattle.edit.specs.declared.Edited.{Edited}
-use Rattle.edit.specs.Ends.{Ends, Refused}
-use Rattle.edit.proofs.Laws.Step.{Step, skip, stop, finish-made, meets-on, meets-7}
-use Rattle.edit.proofs.Laws.Tests.{long, short, labelled, carrying, taken, free, missing, sought-by, is-full, has-room}
-use Rattle.adding.specs.Grown.{withMore, Plainly}
-use Rattle.adding.proofs.Laws.Grown.{grown-stands, grown-same, lists-stay}
+use Rattle.edit.specs.Ends.{Refused}
+use Rattle.edit.proofs.Laws.Step.{Step, skip, stop, meets-on, meets-7}
+use Rattle.edit.proofs.Laws.Tests.{long, short, labelled, carrying, taken, free, missing, sought-by}
+use Rattle.adding.specs.Grown.{Grew, Plainly}
+use Rattle.adding.proofs.Laws.Grown.{grew}
 
 module _ (m : Record) (t : Tag) (c : Component) (ok : Bool) (r : Edited) where
   pub plain-7 : passes m ≡ false → Refused m 7 [] 0 r → Plainly t c ok m r
@@ -53,23 +53,11 @@ module _ (m : Record) (t : Tag) (c : Component) (ok : Bool) (r : Edited) where
         plain-11 e z =
             on (skip (overlong t) 1 empty 0 (short t st) (skip (not ok) 4 t 0 (ap not fits) (stop (held t (componentsOf m)) 11 t 0 _ (taken (sought-by lt p) e) (carrying lt z))))
 
-        module _ (n : f ≡ Nothing) (size : length (m .components) ≡ 64) where
-          pub plain-15 : 64 ≤ m .«component_count» → Refused m 15 [] 0 r → Plainly t c ok m r
-          unfolding addPlain view
-          plain-15 k z =
-              on (skip (overlong t) 1 empty 0 (short t st) (skip (not ok) 4 t 0 (ap not fits) (skip (held t (componentsOf m)) 11 t 0 (free (sought-by lt p) n)
-              (stop (full (view m)) 15 empty 0 _ (is-full m size k) z))))
-
-          pub plain-done : m .«component_count» < 64 → Ends (made (bytesOf u)) (withMore m u c u) r → Plainly t c ok m r
-          unfolding addPlain view
-          plain-done k z =
-              let g = standing m v in
-              let x = missing (sought-by lt p) n in
-              on (skip (overlong t) 1 empty 0 (short t st) (skip (not ok) 4 t 0 (ap not fits) (skip (held t (componentsOf m)) 11 t 0 (free (sought-by lt p) n)
-              (skip (full (view m)) 15 empty 0 (has-room m size k)
-              (finish-made (subst (λ (b : Tag). Ends (made b) (withMore m u c u) r) (lt .bytes) z)
-              (grown-same m g size k lt lt c x (m .lists) (m .«list_count») (g .few-lists) (lists-stay m g))
-              (grown-stands m g size k lt lt c x (m .lists) (m .«list_count») (g .few-lists) (lists-stay m g)))))))
+        pub plain-more : f ≡ Nothing → length (m .components) ≡ 64 → Grew m u c u r → Plainly t c ok m r
+        unfolding addPlain view
+        plain-more n size z =
+            on (skip (overlong t) 1 empty 0 (short t st) (skip (not ok) 4 t 0 (ap not fits) (skip (held t (componentsOf m)) 11 t 0 (free (sought-by lt p) n)
+            (grew m (standing m v) size lt lt c (missing (sought-by lt p) n) z))))
 
 -- the two edits that are defined so
 pub constant-is : (t : Tag) (x : Float) (m : Model) → edit (addConstant t x) m ≡ addPlain m t (Constant x) true

@@ -1,13 +1,9 @@
 -- `adding::add_plain` meets its contract. Assumes nothing.
 use borrow.Author.Needs.{needs}
-use mathlib.Core.Path.{_≡_, sym, _∙_, subst}
+use mathlib.Core.Path.{_≡_, sym, _∙_}
 use lib.ListN.{length, length-map}
 use borrow.Author.Tests.{not-true, not-false}
-use Rattle.tag.specs.View.{bytesOf}
-use Rattle.model.specs.declared.implicit_model.Model.{Model as Record}
-use Rattle.model.specs.Edit.{made}
-use Rattle.edit.specs.Ends.{Ends}
-use Rattle.adding.proofs.Laws.Plain.{plain-7, plain-1, plain-4, plain-11, plain-15, plain-done}
+use Rattle.adding.proofs.Laws.Plain.{plain-7, plain-1, plain-4, plain-11, plain-more}
 use Rattle.adding.proofs.add_plain.Statement.{statement}
 use Rattle.adding.proofs.add_plain.Tie as tie
 
@@ -53,20 +49,11 @@ returns-4 c = let a = c .before .before .before .before .before .before .before 
 enum-told-2 : tie.Need-enum-told-2
 enum-told-2 c = search needs
 
-refuse-plain-requires-3 : tie.Need-refuse-plain-requires-3
-refuse-plain-requires-3 c κs = search needs
+add-more-requires : tie.Need-add-more-requires
+add-more-requires c κs = search needs
 
 returns-5 : tie.Need-returns-5
-returns-5 c = let a = c .before .before .before .before .before .before .before .before .before .before .before .before .args in plain-15 (a .m) (a .tag .now) (a .c) (a .fits) _ (sym (c .before .before .before .before .before .before .before .before .before .before .is-valid .ensures) ∙ not-false _ (c .before .before .before .before .before .before .before .before .before .if1 .left)) (c .before .before .before .before .before .before .before .before .if2 .left) _ (c .before .before .before .before .before .before .before .tag-of .ensures) (not-false _ (c .before .before .before .before .before .before .if3 .left)) _ (c .before .before .before .before .before .find-component .ensures) (c .before .before .before .enum-told2 .given .1) (size (c .before .before .before .before .before .before .before .before .before .before .before .before)) (c .before .if4 .taken) (c .refuse-plain3 .ensures)
-
-with-more-requires : tie.Need-with-more-requires
-with-more-requires c κs = search needs
-
-made-requires : tie.Need-made-requires
-made-requires c κs = search needs
-
-returns-6 : tie.Need-returns-6
-returns-6 c = let a = c .before .before .before .before .before .before .before .before .before .before .before .before .before .args in plain-done (a .m) (a .tag .now) (a .c) (a .fits) _ (sym (c .before .before .before .before .before .before .before .before .before .before .before .is-valid .ensures) ∙ not-false _ (c .before .before .before .before .before .before .before .before .before .before .if1 .left)) (c .before .before .before .before .before .before .before .before .before .if2 .left) _ (c .before .before .before .before .before .before .before .before .tag-of .ensures) (not-false _ (c .before .before .before .before .before .before .before .if3 .left)) _ (c .before .before .before .before .before .before .find-component .ensures) (c .before .before .before .before .enum-told2 .given .1) (size (c .before .before .before .before .before .before .before .before .before .before .before .before .before)) (c .before .before .if4 .left) (subst (λ (x : Record). Ends (made (bytesOf (c .before .before .before .before .before .before .before .before .tag-of .result))) x (c .made .result)) (c .before .with-more .ensures) (c .made .ensures))
+returns-5 c = let a = c .before .before .before .before .before .before .before .before .before .before .args in plain-more (a .m) (a .tag .now) (a .c) (a .fits) _ (sym (c .before .before .before .before .before .before .before .before .is-valid .ensures) ∙ not-false _ (c .before .before .before .before .before .before .before .if1 .left)) (c .before .before .before .before .before .before .if2 .left) _ (c .before .before .before .before .before .tag-of .ensures) (not-false _ (c .before .before .before .before .if3 .left)) _ (c .before .before .before .find-component .ensures) (c .before .enum-told2 .given .1) (size (c .before .before .before .before .before .before .before .before .before .before)) (c .add-more .ensures)
 
 pub add-plain-spec : {M : Type 1} → statement M
 add-plain-spec =
@@ -85,8 +72,5 @@ add-plain-spec =
     refuse-requires-2
     returns-4
     enum-told-2
-    refuse-plain-requires-3
-    returns-5
-    with-more-requires
-    made-requires
-    returns-6)
+    add-more-requires
+    returns-5)

@@ -1,19 +1,17 @@
 -- An edit's outcome where nothing refuses it, and what then is to be shown of the bytes. Assumes nothing.
 use Prim.Native.Nat.{ℕ, _<_}
 use mathlib.Core.Path.{_≡_, sym, ap, subst, _∙_}
-use mathlib.Core.Bool.{Bool, true, false, not, _||_, cond}
+use mathlib.Core.Bool.{Bool, true, false, not}
 use mathlib.Core.List.{List}
-use mathlib.Core.Option.{Option, none, some}
-use lib.Dec.{T, eqb}
-use lib.ListN.{length, getD, replicate}
+use mathlib.Core.Option.{none, some}
+use lib.Dec.{T}
+use lib.ListN.{length, getD}
 use borrow.Author.Tests.{lt-leb}
 use Rattle.tag.specs.Tags.{Tag, empty, overlong}
-use Rattle.component.specs.Kind.{isOperation}
-use Rattle.component.specs.Value.{inputCount}
 use Rattle.component.specs.declared.model_component.Component.{Component}
-use Rattle.model.specs.Table.{any, Table, find, held, distinct}
+use Rattle.model.specs.Table.{Table, find, held, distinct}
 use Rattle.model.specs.Model.{Place, Model, valid}
-use Rattle.model.specs.Edit.{Edit, Answer, addOperation, addComponent, made, Outcome, check, edit, full, listsFull, withComponent, withOperation, addPlain, lookedAt, newPlaces, addOp, freeTag, addUnder, addFree, addAny}
+use Rattle.model.specs.Edit.{Edit, Answer, made, Outcome, edit, full, withComponent, addPlain}
 use Rattle.model.proofs.Laws.Bool.{T→true}
 use Rattle.model.proofs.Laws.Valid.{found-held}
 use Rattle.held.proofs.Laws.Changes.{Becomes, find-at}
@@ -47,30 +45,3 @@ module _ (m : Model) (t : Tag) (c : Component) where
   unfolding addPlain
   plain-is fits s f n r =
       pass m (overlong t) 1 empty 0 _ s ∙ (pass m (not fits) 4 t 0 _ (ap not f) ∙ (pass m (held t (m .components)) 11 t 0 _ (unheld t (m .components) n) ∙ pass m (full m) 15 empty 0 _ (has-room m r)))
-
-  pub operation-is : (ts : Option (List Tag)) → overlong t ≡ false → any overlong (lookedAt ts) ≡ false → isOperation c ≡ true → find t (m .components) ≡ none
-      → eqb (length (newPlaces c ts)) (inputCount c) ≡ true → length (m .components) < 64 → listsFull m t ≡ false
-      → edit (addOperation t c ts) m ≡ record { answer = made t; model = withOperation m t c (newPlaces c ts) t }
-  unfolding edit addOp
-  operation-is ts s a o n q r l =
-      pass m (overlong t || any overlong (lookedAt ts)) 1 empty 0 _ (ap (λ (b : Bool). b || any overlong (lookedAt ts)) s ∙ a)
-      ∙ (pass m (not (isOperation c)) 4 t 0 _ (ap not o) ∙ (pass m (held t (m .components)) 11 t 0 _ (unheld t (m .components) n)
-      ∙ (pass m (not (eqb (length (newPlaces c ts)) (inputCount c))) 2 t 0 _ (ap not q) ∙ (pass m (full m) 15 empty 0 _ (has-room m r) ∙ pass m (listsFull m t) 16 empty 0 _ l))))
-
-  -- under the free tag u
-  module _ (u : Tag) (s : overlong t ≡ false) (f : freeTag (m .components) t ≡ some u) (v : overlong u ≡ false) (r : length (m .components) < 64) where
-    under : edit (addComponent t c) m ≡ addUnder m u t c
-    unfolding edit addAny
-    under = pass m (overlong t) 1 empty 0 _ s ∙ (ap (addFree m t c) f ∙ (pass m (overlong u) 17 t 0 _ v ∙ pass m (full m) 15 empty 0 _ (has-room m r)))
-
-    pub component-is : isOperation c ≡ false → edit (addComponent t c) m ≡ record { answer = made u; model = withComponent m u c t }
-    unfolding addUnder
-    component-is o =
-        under ∙ ap (λ (b : Bool). cond b (check m (listsFull m u) 16 empty 0 (record { answer = made u; model = withOperation m u c (replicate (inputCount c) none) t }))
-        (record { answer = made u; model = withComponent m u c t })) o
-
-    pub listed-is : isOperation c ≡ true → listsFull m u ≡ false → edit (addComponent t c) m ≡ record { answer = made u; model = withOperation m u c (replicate (inputCount c) none) t }
-    unfolding addUnder
-    listed-is o l =
-        under ∙ (ap (λ (b : Bool). cond b (check m (listsFull m u) 16 empty 0 (record { answer = made u; model = withOperation m u c (replicate (inputCount c) none) t }))
-        (record { answer = made u; model = withComponent m u c t })) o ∙ pass m (listsFull m u) 16 empty 0 _ l)

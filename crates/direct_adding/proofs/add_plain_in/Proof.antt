@@ -1,9 +1,7 @@
 -- `direct_adding::add_plain_in` meets its contract. Assumes nothing.
-use native.Mathlib.Omega.{arith}
 use borrow.Author.Needs.{needs}
 use borrow.Author.Tests.{not-false}
-use Rattle.direct_rows.proofs.Laws.Parts.{whole}
-use Rattle.direct_adding.proofs.Laws.Plain.{plain-left, plain-done}
+use Rattle.direct_adding.proofs.Laws.Plain.{plain-left, plain-more}
 use Rattle.direct_adding.proofs.add_plain_in.Statement.{statement}
 use Rattle.direct_adding.proofs.add_plain_in.Tie as tie
 
@@ -43,29 +41,17 @@ same-length-2 c = search needs
 returns-4 : tie.Need-returns-4
 returns-4 c = let a = c .before .before .before .before .before .before .before .before .before .before .before .args in plain-left (a .tag .now) (a .c) (a .fits) (a .s .now) (c .not-added4 .result) (c .not-added4 .ensures)
 
-component-count-requires : tie.Need-component-count-requires
-component-count-requires c κs = search needs
+tag-of-requires : tie.Need-tag-of-requires
+tag-of-requires c κs = search needs
 
-not-added-requires-5 : tie.Need-not-added-requires-5
-not-added-requires-5 c κs = search needs
+add-more-in-requires : tie.Need-add-more-in-requires
+add-more-in-requires c κs = search needs
 
 same-length-3 : tie.Need-same-length-3
 same-length-3 c = search needs
 
 returns-5 : tie.Need-returns-5
-returns-5 c = let a = c .before .before .before .before .before .before .before .before .before .before .before .before .before .before .args in plain-left (a .tag .now) (a .c) (a .fits) (a .s .now) (c .not-added5 .result) (c .not-added5 .ensures)
-
-tag-of-requires : tie.Need-tag-of-requires
-tag-of-requires c κs = search needs
-
-put-more-requires : tie.Need-put-more-requires
-put-more-requires c κs = (whole ((c .before .before .before .before .before .before .before .before .before .stands .ensures (not-false _ (c .before .before .before .before .before .before .before .before .if3 .left))) .is) .size, omega (arith, c .before .before .if5 .left))
-
-same-length-4 : tie.Need-same-length-4
-same-length-4 c = search needs
-
-returns-6 : tie.Need-returns-6
-returns-6 c = let a = c .before .before .before .before .before .before .before .before .before .before .before .before .before .before .before .before .before .before .args in plain-done (a .tag .now) (a .c) (a .fits) (c .before .before .before .before .before .before .before .before .before .before .before .before .stands .ensures (not-false _ (c .before .before .before .before .before .before .before .before .before .before .before .if3 .left))) (not-false _ (c .before .before .before .before .before .before .before .before .before .before .before .before .before .before .before .if1 .left)) (c .before .before .before .before .before .before .before .before .before .before .before .before .before .before .if2 .left) _ (c .before .before .before .before .tag-of .ensures) (c .before .before .before .before .before .before .before .before .before .component-row-of .ensures) (c .before .before .before .before .before .before .before .before .if4 .left) (c .before .before .before .before .before .before .component-count .ensures) (omega (arith, c .before .before .before .before .before .if5 .left)) (c .before .before .put-more .ensures)
+returns-5 c = let a = c .before .before .before .before .before .before .before .before .before .before .before .before .before .before .before .args in plain-more (a .tag .now) (a .c) (a .fits) (c .before .before .before .before .before .before .before .before .before .stands .ensures (not-false _ (c .before .before .before .before .before .before .before .before .if3 .left))) (not-false _ (c .before .before .before .before .before .before .before .before .before .before .before .before .if1 .left)) (c .before .before .before .before .before .before .before .before .before .before .before .if2 .left) _ (c .before .before .before .before .tag-of .ensures) (c .before .before .before .before .before .before .component-row-of .ensures) (c .before .before .before .before .before .if4 .left) (c .before .before .add-more-in .ensures)
 
 pub add-plain-in-spec : {M : Type 1} → statement M
 add-plain-in-spec =
@@ -83,11 +69,7 @@ add-plain-in-spec =
     not-added-requires-4
     same-length-2
     returns-4
-    component-count-requires
-    not-added-requires-5
-    same-length-3
-    returns-5
     tag-of-requires
-    put-more-requires
-    same-length-4
-    returns-6)
+    add-more-in-requires
+    same-length-3
+    returns-5)

@@ -41,9 +41,9 @@ use Rattle.direct_rows.proofs.Laws.Table.{built-same, built-fewer}
 use Rattle.direct_rows.proofs.Laws.Parts.{Whole, whole}
 use Rattle.direct_rows.proofs.Laws.Found.{components-length, component-found}
 use Rattle.direct_rows.proofs.Laws.Took.{applied, took}
-use Rattle.direct_removing.specs.Swapping.{Swapped}
+use Rattle.direct_swapping.specs.Swapping.{Swapped}
 use Rattle.direct_removing.specs.Removing.{LastMoved}
-use Rattle.direct_removing.proofs.Laws.Swapped.{swapped-whole, swapped-spares}
+use Rattle.direct_swapping.proofs.Laws.Swapped.{swapped-whole, swapped-spares}
 
 -- ---- the last row moved
 

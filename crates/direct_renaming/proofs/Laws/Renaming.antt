@@ -30,8 +30,8 @@ use Rattle.direct_rows.specs.Took.{Took}
 use Rattle.direct_rows.proofs.Laws.Parts.{Whole, whole}
 use Rattle.direct_rows.proofs.Laws.Found.{components-length, lists-length, component-found, component-missing, list-found, list-missing, unheld}
 use Rattle.direct_rows.proofs.Laws.Took.{applied, took}
-use Rattle.direct_removing.specs.Swapping.{Swapped}
-use Rattle.direct_removing.proofs.Laws.Swapped.{swapped-whole, swapped-spares}
+use Rattle.direct_swapping.specs.Swapping.{Swapped}
+use Rattle.direct_swapping.proofs.Laws.Swapped.{swapped-whole, swapped-spares}
 use Rattle.direct_renaming.specs.Renaming.{Renamable, ListRenamed}
 use Rattle.direct_renaming.proofs.Laws.Tagged.{entry-tagged, entry-spares, list-tagged, list-spares}
 

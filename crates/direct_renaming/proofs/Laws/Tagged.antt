@@ -24,7 +24,7 @@ use Rattle.direct_rows.proofs.Laws.Table.{built-same, built-set}
 use Rattle.direct_rows.proofs.Laws.Parts.{Whole}
 use Rattle.direct_rows.proofs.Laws.Found.{components-length, lists-length}
 use Rattle.direct_rows.proofs.Laws.Written.{agree-above}
-use Rattle.direct_removing.proofs.Laws.Parts.{entry-parts, list-parts}
+use Rattle.direct_swapping.proofs.Laws.Parts.{entry-parts, list-parts}
 
 module _ {s v : List ℕ} {m : Model} (g : Whole s m) (u : Tag) where
   -- ---- a component

@@ -34,15 +34,15 @@ use Rattle.graph.specs.declared.computation_graph.Compiling.the-variants.{Order
 use Rattle.graph.specs.declared.computation_graph.CompiledGraph.{CompiledGraph}
 use Rattle.evaluating.specs.declared.evaluate.Evaluating.the-variants.{Number as Bits, Refused as Handed}
 use Rattle.nodes.specs.Nodes.{_∈_}
-use Rattle.graph.specs.Wiring.{look, placeWant, nodeOf, settled}
+use Rattle.resolving.specs.Slots.{look, placeWant, nodeOf, settled}
 use Rattle.graph.specs.Compile.{countOf, endingOf, tagAt, CompilesAs}
 use Rattle.evaluating.specs.Evaluate.{inputOf, EvaluatesAs}
 use Rattle.nodes.proofs.Laws.Order.{snoc-cut, no-cut}
 use Rattle.nodes.proofs.Laws.Wires.{take-at}
-use Rattle.graph.proofs.Laws.Node.{position-at, node-hit, entry-row}
-use Rattle.graph.proofs.Laws.Places.{want-names, want-past}
+use Rattle.resolving.proofs.Laws.Node.{position-at, node-hit, entry-row}
+use Rattle.resolving.proofs.Laws.Places.{want-names, want-past}
 use Rattle.graph.proofs.Laws.Names.{map-mem, map-mem-inv}
-use Rattle.graph.proofs.Laws.Drawing.{inputs-short}
+use Rattle.resolving.proofs.Laws.Slots.{inputs-short}
 
 -- ---- an order cut in front of one of its tags
 

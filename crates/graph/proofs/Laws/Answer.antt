@@ -3,7 +3,6 @@ use Prim.Native.Nat.{ℕ, zero, suc, _+_, _-_, _*_, _/_, _%_, _≤_, _<_, min}
 use native.Mathlib.Omega.{arith}
 use native.Mathlib.Decide.{decLt}
 use mathlib.Core.Path.{_≡_, refl, sym, ap, ap₂, subst, _∙_}
-use mathlib.Core.Logic.{_≢_}
 use mathlib.Core.Bool.{Bool, true, false, cond, not, true≢false, false≢true}
 use mathlib.Core.List.{List, [], _∷_, map, List·Memᴰ, List·Memᴰ·head, List·Memᴰ·tail, List·Memᴰ·not-nil}
 use mathlib.Core.Option.{Option, none, some, Option·getD}
@@ -19,7 +18,7 @@ use Rattle.model.specs.declared.implicit_model.Model.{Model as Record}
 use Rattle.held.specs.declared.find.Found.{Found}
 use Rattle.held.specs.declared.find.Found.the-variants.{At, Nothing}
 use Rattle.model.specs.declared.model_error.ModelError.{ModelError}
-use Rattle.model.specs.declared.model_error.ModelError.the-variants.{InvalidModel}
+use Rattle.model.specs.declared.model_error.ModelError.the-variants.{InvalidModel, MissingTag, MissingInput}
 use Rattle.model.specs.Answer.{numberOf}
 use Rattle.model.specs.Model.{Place, inputs, valid}
 use Rattle.model.specs.Walk.{gap}
@@ -29,20 +28,22 @@ use Rattle.held.specs.Search.{position}
 use Rattle.model.proofs.Laws.Bool.{T→true, true→T}
 use Rattle.held.proofs.Laws.Rows.{no-entry, no-list, rows-at}
 use Rattle.held.proofs.Laws.Standing.{Standing, standing, passes-valid}
-use Rattle.graph.specs.declared.least.Best.{Best}
+use Rattle.lacking.specs.declared.least.Best.{Best}
 use Rattle.graph.specs.declared.computation_graph.Compiling.{Compiling}
 use Rattle.graph.specs.declared.computation_graph.CompiledGraph.{CompiledGraph}
 use Rattle.nodes.specs.Nodes.{_∈_, Circular, IsOrder, inputsOf, IsReach, filledOf, wholeOf}
-use Rattle.graph.specs.Wiring.{look, placeWant, wantOf, nodeOf, settled, slots, Resolved, Wired}
-use Rattle.graph.specs.Least.{LeastOf, AbsentShown, GapShown}
-use Rattle.graph.specs.Compile.{countOf, endingOf, tagAt, positionsOf, CompilesAs, Stopped, Placing}
+use Rattle.resolving.specs.Slots.{look, placeWant, wantOf, nodeOf, settled, slots, Resolved}
+use Rattle.graph.specs.Wiring.{Wired}
+use Rattle.lacking.specs.Least.{LeastOf, AbsentShown, GapShown}
+use Rattle.graph.specs.Compile.{countOf, endingOf, tagAt, positionsOf, CompilesAs, Stopped, Placing, Formed}
 use Rattle.nodes.proofs.Laws.Order.{laid-length, order-acyclic}
 use Rattle.nodes.proofs.Laws.Wires.{upTo, length-upTo, mem-upTo}
-use Rattle.graph.proofs.Laws.Node.{node-within, nameOf, Seat, component-at, list-at, nowhere, seat, name-node, node-none, node-component, absent-node, node-absent, listed-node, list-row, entry-row, unlisted}
-use Rattle.graph.proofs.Laws.Places.{want-names, names-want, gap-want}
+use Rattle.resolving.proofs.Laws.Node.{node-within, nameOf, Seat, component-at, list-at, nowhere, seat, name-node, node-none, node-component, absent-node, node-absent, listed-node, list-row, entry-row, unlisted}
+use Rattle.resolving.proofs.Laws.Places.{want-names, names-want, gap-want}
 use Rattle.graph.proofs.Laws.Names.{Drawn, node-of, wired-node, reach-down, reach-up, cyclic-down, cyclic-up, order-up}
-use Rattle.graph.proofs.Laws.Drawing.{owner, listed-at, inputs-short, inputs-at, tagOf, drawn}
-use Rattle.graph.proofs.Laws.Least.{gap-there, there-gap}
+use Rattle.resolving.proofs.Laws.Slots.{owner, listed-at, inputs-short, inputs-at, tagOf}
+use Rattle.graph.proofs.Laws.Drawing.{drawn}
+use Rattle.lacking.proofs.Laws.Least.{gap-there, there-gap}
 
 -- ---- a refusal
 
@@ -337,3 +338,31 @@ module _ (m : Record) (pass : passes m ≡ true) (t : Tag) (size : overlong t �
             wired = λ x p i hp. let j : x ∈ xs = subst (λ (l : List ℕ). x ∈ l) same i in
                 entry x p (in-order x j .0) hp ∙ d .wires x (reach-down d t small x (o .only x j) .0) p hp ∙ ap (λ (z : Tag). settled m (placeWant (inputs (view m) z) p)) (sym (entry-tag x j));
           }
+
+-- ---- the same of a form
+
+module _ (m : Record) (longs : length (m .lists) ≡ 128) (t : Tag) (found w at : List ℕ) (n : ℕ) (whole : Bool) (seen : List ℕ) (f : Formed no-list m t found w at n whole seen) (r : CompiledGraph) where
+  placing : ((a : Tag) → ¬ Absent (view m) t a) → ((a : Tag) → ¬ Gapped (view m) t a) → Placing at n w r → CompilesAs m t r
+  placing present assigned made =
+      says-ordered m (f .fits) t (f .short) longs found (f .resolved) (min (m .«list_count») 128) refl w (f .wires) (f .node) (f .laid .line) (f .laid .count) seen (f .laid .reach)
+      (take n at) (f .laid .laid .order refl) present assigned at n (f .laid .laid .at-length) (f .laid .laid .fits) refl r made
+
+  pub formed-whole : whole ≡ true → Placing at n w r → CompilesAs m t r
+  formed-whole e = placing
+      (whole-present m (f .fits) t (f .short) longs found (f .resolved) (min (m .«list_count») 128) refl w (f .wires) (f .node) (f .laid .line) (f .laid .count) seen (f .laid .reach) (f .laid .test .each e))
+      (whole-assigned m (f .fits) t (f .short) longs found (f .resolved) (min (m .«list_count») 128) refl w (f .wires) (f .node) (f .laid .line) (f .laid .count) seen (f .laid .reach) (f .laid .test .each e))
+
+  module _ (b : Best) (least : LeastOf (AbsentShown no-list m found seen (slots m)) b) where
+    pub formed-absent : b .some ≡ true → Stopped MissingTag (b .tag) 0 r → CompilesAs m t r
+    formed-absent e = stops m t MissingTag (b .tag) 0 r (f .fits)
+        (says-absent m (f .fits) t (f .short) longs found (f .resolved) (min (m .«list_count») 128) refl w (f .wires) (f .node) (f .laid .line) (f .laid .count) seen (f .laid .reach) (take n at) (f .laid .laid .order refl) b least e)
+
+    module _ (present : b .some ≡ false) (c : Best) (lowest : LeastOf (GapShown no-list m found seen (min (m .«list_count») 128)) c) where
+      pub formed-gapped : c .some ≡ true → Stopped MissingInput (c .tag) (c .index) r → CompilesAs m t r
+      formed-gapped e = stops m t MissingInput (c .tag) (c .index) r (f .fits)
+          (says-gapped m (f .fits) t (f .short) longs found (f .resolved) (min (m .«list_count») 128) refl w (f .wires) (f .node) (f .laid .line) (f .laid .count) seen (f .laid .reach) (take n at) (f .laid .laid .order refl) b least present c lowest e)
+
+      pub formed-full : c .some ≡ false → Placing at n w r → CompilesAs m t r
+      formed-full e = placing
+          (absents-none m (f .fits) t (f .short) longs found (f .resolved) (min (m .«list_count») 128) refl w (f .wires) (f .node) (f .laid .line) (f .laid .count) seen (f .laid .reach) (take n at) (f .laid .laid .order refl) b least present c lowest)
+          (gaps-none m (f .fits) t (f .short) longs found (f .resolved) (min (m .«list_count») 128) refl w (f .wires) (f .node) (f .laid .line) (f .laid .count) seen (f .laid .reach) (take n at) (f .laid .laid .order refl) b least present c lowest e)

@@ -3,7 +3,7 @@ use Prim.Native.Nat.{ℕ, zero, suc, _+_, _*_, _≤_, _<_}
 use native.Mathlib.Omega.{arith}
 use native.Mathlib.Decide.{decLt}
 use mathlib.Core.Path.{_≡_, refl, sym, ap, subst, _∙_}
-use mathlib.Core.Logic.{_⊎_, ⊎-elim}
+use mathlib.Core.Logic.{⊎-elim}
 use mathlib.Core.List.{List, [], _∷_, _++_, map, List·Memᴰ, List·Memᴰ·head, List·Memᴰ·tail, List·Memᴰ·cases-cons, List·Memᴰ·not-nil, Memᴰ·append-left, Memᴰ·append-right}
 use mathlib.Core.Option.{some}
 use lib.ListN.{length, getD}
@@ -15,11 +15,11 @@ use Rattle.model.specs.View.{view}
 use Rattle.model.proofs.Laws.Reach.{reach-on}
 use Rattle.held.proofs.Laws.Standing.{Standing}
 use Rattle.nodes.specs.Nodes.{_∈_, Reaches, itself, wired, Circular, IsOrder, inputsOf}
-use Rattle.graph.specs.Wiring.{Want, look, fixed, placeWant, nodeOf, settled}
+use Rattle.resolving.specs.Slots.{Want, look, fixed, placeWant, nodeOf, settled}
 use Rattle.nodes.proofs.Laws.Order.{by-placing}
 use Rattle.nodes.proofs.Laws.Wires.{entry-cases, entry-0, entry-1, entry-2}
-use Rattle.graph.proofs.Laws.Node.{nameOf, name-node, node-none}
-use Rattle.graph.proofs.Laws.Places.{want-names, names-want, want-fixed}
+use Rattle.resolving.proofs.Laws.Node.{nameOf, name-node, node-none}
+use Rattle.resolving.proofs.Laws.Places.{want-names, names-want, want-fixed}
 
 -- ---- a mapped list
 

@@ -12,7 +12,8 @@ use lib.Ieee.{Float, nan, fin, add, sub, mul, div, neg, lt, isNan, round, sum, s
 use Rattle.tag.specs.Tags.{Tag, is, before, overlong, decimal}
 use Rattle.float.specs.RootOf.{rootOf}
 use Rattle.float.specs.Extrema.{minimumNumber, maximumNumber}
-use Rattle.geometry.specs.Distance.{toCoord, toCoordSquared, toSphere, signedRoot, toTorus}
+use Rattle.geometry.specs.Distance.{toCoord, toCoordSquared}
+use Rattle.shapes.specs.Distance.{toSphere, signedRoot, toTorus}
 use Rattle.geometry.specs.declared.vec3f.Vec3.{Vec3}
 use Rattle.component.specs.Value.{compute}
 use Rattle.component.specs.Parameter.{nameFromMin, nameFromMax, tooNear, setValue, setParameter as parameterSet}

@@ -31,15 +31,25 @@ use Rattle.edit.proofs.Laws.Step.{Step, skip, stop, finish-made, meets-on}
 use Rattle.edit.proofs.Laws.Tests.{long, short, labelled, carrying, taken, free, missing, sought-by, found-row}
 use Rattle.removing.specs.Swapping.{PlacesSwapped}
 use Rattle.removing.proofs.Laws.Holding.{Holds, holds-same, swappedIn, holds-swapped, named, named-fits}
-use Rattle.renaming.specs.Moving.{entryUnder, Movable, ListMoved}
-use Rattle.renaming.proofs.Laws.Moving.{retag-row}
+use Rattle.list_moving.specs.Moving.{Movable, ListMoved}
+use Rattle.list_moving.proofs.Laws.Moving.{retag-row}
+use Rattle.renaming.specs.Moving.{entryUnder, entryAt, TagMoved}
+
+-- the steps of the change, one after another
+pub tag-moved : {m : Record} {i : ℕ} {t u : Label} {w : Record} (k : Record) → (Movable m t u → ListMoved m (bytesOf t) (bytesOf u) k) → (c : ComponentEntry) → c ≡ entryUnder (entryAt m i) u
+    → (n : Record) → n ≡ withEntry k i c → PlacesSwapped (bytesOf t) (record { assigned = true; tag = u }) n w → TagMoved m i t u w
+tag-moved {m} {i} {t} {u} {w} k a c d n b s = record {
+  lists = k;
+  moved = a;
+  places = subst (λ (x : Record). PlacesSwapped (bytesOf t) (record { assigned = true; tag = u }) x w) (b ∙ ap (withEntry k i) d) s;
+}
 
 -- the component of t and its list moved to u
 abbrev movedIn : Record → Tag → Tag → Model
 movedIn m t u = record { components = move t u (componentsOf m); lists = move t u (listsOf m); default = placeOf (m .default) }
 
 -- the tags differ, since one is held and the other is not
-pub movable : (m : Record) → passes m ≡ true → (u : Tag) → length u ≤ 32 → (x y : Label) → Made (take 32 u) y → (f g : Found) → Sought (componentsOf m) 64 (bytesOf y) f → f ≡ Nothing
+movable : (m : Record) → passes m ≡ true → (u : Tag) → length u ≤ 32 → (x y : Label) → Made (take 32 u) y → (f g : Found) → Sought (componentsOf m) 64 (bytesOf y) f → f ≡ Nothing
     → Sought (componentsOf m) 64 (bytesOf x) g → {i : ℕ} → g ≡ At i → Movable m x y
 movable m v u su x y my f g p n q e = record {
   passing = v;
@@ -112,14 +122,16 @@ module _ (m : Record) (t u : Tag) (r : Edited) (v : passes m ≡ true) where
                   };
                 }
 
-            pub rename-done : (c : ComponentEntry) → c ≡ entryUnder (getD (m .components) i no-entry) y → (n : Record) → n ≡ withEntry k i c → (w : Record)
-                → PlacesSwapped (bytesOf x) (record { assigned = true; tag = y }) n w → Ends (made (bytesOf y)) w r → Meets (renameComponent t u) m r
-            unfolding rename view
-            rename-done c d o b w s z =
-                let by : PlaceRecord = record { assigned = true; tag = y } in
-                let h : Holds (renamed (view m) t u) w =
-                subst (λ (c : Place). Holds (swappedIn t c (movedIn m t u)) w) (named ly)
-                (holds-swapped t by (named-fits ly) o w (subst (λ (c : Tag). PlacesSwapped c by o w) (lx .bytes) s) (movedIn m t u) (subst (Holds (movedIn m t u)) (sym (b ∙ ap (withEntry k i) d)) both)) in
-                on (skip (overlong t) 1 empty 0 (short t st) (skip (overlong u) 1 empty 0 (short u su) (skip (held u (componentsOf m)) 11 u 0 (free (sought-by ly p) n)
-                (skip (not (held t (componentsOf m))) 12 t 0 (ap not (taken (sought-by lx q) e))
-                (finish-made (subst (λ (c : Tag). Ends (made c) w r) (ly .bytes) z) (holds-same h) (h .stands))))))
+          pub rename-done : (w : Record) → TagMoved m i x y w → Ends (made (bytesOf y)) w r → Meets (renameComponent t u) m r
+          unfolding rename view
+          rename-done w s z =
+              let by : PlaceRecord = record { assigned = true; tag = y } in
+              let k = s .lists in
+              let o = withEntry k i (entryUnder (getD (m .components) i no-entry) y) in
+              let h : Holds (renamed (view m) t u) w =
+              subst (λ (c : Place). Holds (swappedIn t c (movedIn m t u)) w) (named ly)
+              (holds-swapped t by (named-fits ly) o w (subst (λ (c : Tag). PlacesSwapped c by o w) (lx .bytes) (s .places)) (movedIn m t u)
+              (both k (s .moved (movable m v u su x y my f g p n q e)))) in
+              on (skip (overlong t) 1 empty 0 (short t st) (skip (overlong u) 1 empty 0 (short u su) (skip (held u (componentsOf m)) 11 u 0 (free (sought-by ly p) n)
+              (skip (not (held t (componentsOf m))) 12 t 0 (ap not (taken (sought-by lx q) e))
+              (finish-made (subst (λ (c : Tag). Ends (made c) w r) (ly .bytes) z) (holds-same h) (h .stands))))))

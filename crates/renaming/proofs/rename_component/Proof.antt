@@ -1,5 +1,4 @@
 -- `renaming::rename_component` meets its contract. Assumes nothing.
-use native.Mathlib.Omega.{arith}
 use borrow.Author.Needs.{needs}
 use mathlib.Core.Path.{_≡_, sym, _∙_}
 use mathlib.Core.Bool.{true}
@@ -7,7 +6,7 @@ use Prim.Native.Nat.{_<_}
 use borrow.Author.Tests.{not-true, not-false}
 use Rattle.model.specs.View.{passes}
 use Rattle.edit.proofs.Laws.Step.{meets-7}
-use Rattle.renaming.proofs.Laws.Renaming.{rename-1, rename-1-new, rename-11, rename-12, movable, rename-done}
+use Rattle.renaming.proofs.Laws.Renaming.{rename-1, rename-1-new, rename-11, rename-12, rename-done}
 use Rattle.renaming.proofs.rename_component.Statement.{statement}
 use Rattle.renaming.proofs.rename_component.Tie as tie
 use Rattle.renaming.proofs.rename_component.Reads as reads
@@ -15,20 +14,13 @@ use Rattle.renaming.proofs.rename_component.Lts as lts
 use Rattle.edit.proofs.made.Reads as made-reads
 use Rattle.edit.proofs.refuse.Reads as refuse-reads
 use Rattle.edit.proofs.refuse_plain.Reads as refuse-plain-reads
-use Rattle.edit.proofs.rows.with_entry.Reads as with-entry-reads
 use Rattle.held.proofs.find.find_component.Reads as find-component-reads
 use Rattle.validity.proofs.is_valid.Reads as is-valid-reads
-use Rattle.removing.proofs.swapping.places_swapped.Reads as places-swapped-reads
-use Rattle.renaming.proofs.entry_under.Reads as entry-under-reads
-use Rattle.renaming.proofs.list_moved.Reads as list-moved-reads
+use Rattle.renaming.proofs.tag_moved.Reads as tag-moved-reads
 use Rattle.tag.proofs.tag_of.Reads as tag-of-reads
 
-passed : (c : tie.Else1) → passes (c .before .before .before .before .args .t1) ≡ true
+passed : (c : tie.Else1) → passes (c .before .before .before .before .args .m) ≡ true
 passed c = sym (c .before .is-valid .ensures) ∙ not-false _ (c .if1 .left)
-
--- the component found stands within the table
-below : (c : tie.After-known-told) → c .before .g .given .0 .0 < 64
-below c = c .before .before .before .find-component2 .ensures .within _ (c .before .g .given .1)
 
 is-valid-requires : tie.Need-is-valid-requires
 is-valid-requires c κs = search needs
@@ -46,7 +38,7 @@ returns-2 : tie.Need-returns-2
 returns-2 c =
     let e = c .before .before in
     let a = e .before .before .before .before .args in
-    rename-1 (a .t1) (a .old .now) (a .new .now) _ (passed e) (c .before .if2 .taken) (c .refuse-plain2 .ensures)
+    rename-1 (a .m) (a .old .now) (a .new .now) _ (passed e) (c .before .if2 .taken) (c .refuse-plain2 .ensures)
 
 refuse-plain-requires-3 : tie.Need-refuse-plain-requires-3
 refuse-plain-requires-3 c κs = search needs
@@ -55,7 +47,7 @@ returns-3 : tie.Need-returns-3
 returns-3 c =
     let e = c .before .before .before in
     let a = e .before .before .before .before .args in
-    rename-1-new (a .t1) (a .old .now) (a .new .now) _ (passed e) (c .before .before .if2 .left) (c .before .if3 .taken) (c .refuse-plain3 .ensures)
+    rename-1-new (a .m) (a .old .now) (a .new .now) _ (passed e) (c .before .before .if2 .left) (c .before .if3 .taken) (c .refuse-plain3 .ensures)
 
 tag-of-requires : tie.Need-tag-of-requires
 tag-of-requires c κs = search needs
@@ -78,7 +70,7 @@ returns-4 c =
     let e3 = f .before .before .before in
     let e = e3 .before .before in
     let s = e .before .before .before .before in
-    rename-11 (s .args .t1) (s .args .old .now) (s .args .new .now) _ (passed e) (e3 .before .if2 .left) (e3 .if3 .left) _ (f .before .before .tag-of .ensures) _ (f .before .tag-of2 .ensures) _ (f .find-component .ensures) (c .before .enum-told .given .1) (c .refuse .ensures)
+    rename-11 (s .args .m) (s .args .old .now) (s .args .new .now) _ (passed e) (e3 .before .if2 .left) (e3 .if3 .left) _ (f .before .before .tag-of .ensures) _ (f .before .tag-of2 .ensures) _ (f .find-component .ensures) (c .before .enum-told .given .1) (c .refuse .ensures)
 
 enum-told-2 : tie.Need-enum-told-2
 enum-told-2 c = search needs
@@ -102,46 +94,24 @@ returns-5 c =
     let e3 = f .before .before .before in
     let e = e3 .before .before in
     let s = e .before .before .before .before in
-    rename-12 (s .args .t1) (s .args .old .now) (s .args .new .now) _ (passed e) (e3 .before .if2 .left) (e3 .if3 .left) _ (f .before .before .tag-of .ensures) _ (f .before .tag-of2 .ensures) _ (f .find-component .ensures) (g .before .enum-told2 .given .1) _ (g .find-component2 .ensures) (c .before .enum-told3 .given .1) (c .refuse2 .ensures)
+    rename-12 (s .args .m) (s .args .old .now) (s .args .new .now) _ (passed e) (e3 .before .if2 .left) (e3 .if3 .left) _ (f .before .before .tag-of .ensures) _ (f .before .tag-of2 .ensures) _ (f .find-component .ensures) (g .before .enum-told2 .given .1) _ (g .find-component2 .ensures) (c .before .enum-told3 .given .1) (c .refuse2 .ensures)
 
-mul-e : tie.Need-mul-e
-mul-e c = omega (arith, below c)
-
-element-copy-out-e : tie.Need-element-copy-out-e
-element-copy-out-e c = below c
-
-entry-under-requires : tie.Need-entry-under-requires
-entry-under-requires c κs = search needs
-
-list-moved-requires : tie.Need-list-moved-requires
-list-moved-requires c κs =
-    let k = c .before .before .before in
-    let g = k .before .before in
-    let f = g .before .before .before in
-    let e3 = f .before .before .before in
-    let e = e3 .before .before in
-    let s = e .before .before .before .before in
-    movable (s .args .t1) (passed e) (s .args .new .now) (e3 .if3 .left) _ _ (f .before .tag-of2 .ensures) _ _ (f .find-component .ensures) (g .before .enum-told2 .given .1) (g .find-component2 .ensures) (k .g .given .1)
-
-with-entry-requires : tie.Need-with-entry-requires
-with-entry-requires c κs = search needs
-
-places-swapped-requires : tie.Need-places-swapped-requires
-places-swapped-requires c κs = search needs
+-- the component found stands within the table
+tag-moved-requires : tie.Need-tag-moved-requires
+tag-moved-requires c κs = c .before .before .before .find-component2 .ensures .within _ (c .before .g .given .1)
 
 made-requires : tie.Need-made-requires
 made-requires c κs = search needs
 
 returns-6 : tie.Need-returns-6
 returns-6 c =
-    let w = c .before .before in
-    let k = w .before .before .before .before .before in
+    let k = c .before .before .before in
     let g = k .before .before in
     let f = g .before .before .before in
     let e3 = f .before .before .before in
     let e = e3 .before .before in
     let s = e .before .before .before .before in
-    rename-done (s .args .t1) (s .args .old .now) (s .args .new .now) _ (passed e) (e3 .before .if2 .left) (e3 .if3 .left) _ (f .before .before .tag-of .ensures) _ (f .before .tag-of2 .ensures) _ (f .find-component .ensures) (g .before .enum-told2 .given .1) _ (g .find-component2 .ensures) _ (k .g .given .1) _ (w .before .list-moved .ensures) _ (w .before .before .entry-under .ensures) _ (w .with-entry .ensures) _ (c .before .places-swapped .ensures) (c .made .ensures)
+    rename-done (s .args .m) (s .args .old .now) (s .args .new .now) _ (passed e) (e3 .before .if2 .left) (e3 .if3 .left) _ (f .before .before .tag-of .ensures) _ (f .before .tag-of2 .ensures) _ (f .find-component .ensures) (g .before .enum-told2 .given .1) _ (g .find-component2 .ensures) _ (k .g .given .1) _ (c .before .tag-moved .ensures) (c .made .ensures)
 
 pub rename-component-spec : {M : Type 1} → statement M
 rename-component-spec =
@@ -166,11 +136,6 @@ rename-component-spec =
     enum-told-3
     refuse-requires-2
     returns-5
-    mul-e
-    element-copy-out-e
-    entry-under-requires
-    list-moved-requires
-    with-entry-requires
-    places-swapped-requires
+    tag-moved-requires
     made-requires
     returns-6)

@@ -20,10 +20,12 @@ use Rattle.model.proofs.Theorems.Carry.{compiles-carried}
 use Rattle.model.proofs.Theorems.Steady.{spared as spares-carries, steady}
 use Rattle.edit.specs.Meets.{defined}
 use Rattle.edit.proofs.Laws.Step.{defined-apply, defined-refused}
-use Rattle.steady.specs.Lists.{carried, after, newest, Sparing, idle, spared}
+use Rattle.newest.specs.Carried.{carried}
+use Rattle.newest.proofs.Theorems.Newest.{spared-carried}
+use Rattle.row_running.specs.Steps.{Step}
+use Rattle.steady.specs.Lists.{after, newest, Sparing, idle, spared}
 use Rattle.steady.specs.Steadied.{Steadied}
-use Rattle.steady.specs.Steps.{Step, Along, At}
-use Rattle.steady.proofs.Theorems.Newest.{spared-carried}
+use Rattle.steady.specs.Steps.{Along, At}
 
 same-refl : (m : Model) → Same m m
 same-refl m = record { components = λ t. refl; lists = λ t. refl; default = refl }

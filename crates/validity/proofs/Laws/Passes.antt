@@ -1,38 +1,29 @@
 -- 7 as the code judges it, row by row, and that this is what is defined. Assumes nothing.
-use mathlib.Core.Path.{_≡_, refl, sym, _∙_, ap, subst}
-use mathlib.Core.Logic.{_≢_}
-use mathlib.Core.Bool.{Bool, true, false, not, _&&_, cond}
-use mathlib.Core.List.{List, [], _∷_, map}
-use mathlib.Core.Option.{Option, none, some}
-use Prim.Native.Nat.{ℕ, zero, suc, _<_, _≤_}
+use mathlib.Core.Path.{_≡_, sym, subst}
+use mathlib.Core.Bool.{Bool, true, false}
+use mathlib.Core.List.{List, [], _∷_}
+use Prim.Native.Nat.{ℕ, _<_, _≤_}
 use native.Mathlib.Omega.{arith}
-use lib.Dec.{T, leb, ltb, eqb, leb→le, le→leb, not-T, ltb→lt}
-use lib.ListN.{take, length, length-take}
+use lib.Dec.{T, leb, leb→le, le→leb}
+use lib.ListN.{length}
 use borrow.Author.Tests.{le-leb, lt-leb}
-use Rattle.tag.specs.declared.Tag.{Tag as Label}
-use Rattle.tag.specs.Tags.{overlong}
 use Rattle.tag.specs.View.{bytesOf, tagFits}
-use Rattle.component.specs.Value.{inputCount}
 use Rattle.component.specs.declared.model_component.Component.{Component}
 use Rattle.model.specs.declared.implicit_model.Place.{Place as PlaceRecord}
-use Rattle.model.specs.declared.implicit_model.ComponentEntry.{ComponentEntry}
-use Rattle.model.specs.declared.implicit_model.InputList.{InputList}
 use Rattle.model.specs.declared.implicit_model.Model.{Model as Record}
 use Rattle.held.specs.declared.find.Found.the-variants.{At, Nothing}
-use Rattle.model.specs.Table.{all, Table, find, distinct}
-use Rattle.model.specs.Model.{Place, shortTag, shortPlace, goodList, counted, listed, named, tests, valid}
+use Rattle.model.specs.Table.{all, Table, distinct}
+use Rattle.model.specs.Model.{shortTag, goodList, listed, named, tests, valid}
 use Rattle.model.specs.View.{placeOf, rows, componentOf, listOf, componentsOf, listsOf, view, every, placeFits, entryFits, listFits, sizes, fits, passes}
 use Rattle.held.specs.Search.{position}
-use Rattle.validity.specs.Sound.{listSound, entrySound, defaultSound}
-use Rattle.model.proofs.Laws.Bool.{T→true, and-T, and-T₁, and-T₂}
-use Rattle.model.proofs.Laws.Valid.{Passed, passed, unpassed}
+use Rattle.model.proofs.Laws.Bool.{and-T, and-T₁, and-T₂}
+use Rattle.model.proofs.Laws.Valid.{passed, unpassed}
 use Rattle.held.proofs.Laws.Rows.{rows-length}
 use Rattle.held.proofs.Laws.Search.{position-held, position-free}
-
-bool-ext : (a b : Bool) → (T a → T b) → (T b → T a) → a ≡ b
-bool-ext true b f g = sym (T→true b (f tt))
-bool-ext false true f g = absurd (g tt)
-bool-ext false false f g = refl
+use Rattle.sound_lists.specs.Sound.{listSound}
+use Rattle.sound_lists.proofs.Laws.Lists.{bool-ext, all-rows, imply-rows, join-rows, fits-short, list-parts}
+use Rattle.sound_components.specs.Sound.{entrySound}
+use Rattle.validity.specs.Sound.{defaultSound}
 
 abbrev judged : Record → List Bool
 judged m =
@@ -47,115 +38,6 @@ judged m =
 
 unfoldable pub checks : Record → Bool
 checks m = every (judged m)
-
--- ---- tests of all rows
-
-module _ {A : Type 0} where
-  imply : (f g : A → Bool) → ((x : A) → T (f x) → T (g x)) → (xs : List A) → T (every (map f xs)) → T (every (map g xs))
-  imply f g h [] t = tt
-  imply f g h (x ∷ xs) t = and-T (g x) (every (map g xs)) (h x (and-T₁ (f x) (every (map f xs)) t)) (imply f g h xs (and-T₂ (f x) (every (map f xs)) t))
-
-  join : (f g : A → Bool) (xs : List A) → T (every (map f xs)) → T (every (map g xs)) → T (every (map (λ x. f x && g x) xs))
-  join f g [] t u = tt
-  join f g (x ∷ xs) t u =
-      and-T (f x && g x) (every (map (λ x. f x && g x) xs)) (and-T (f x) (g x) (and-T₁ (f x) (every (map f xs)) t) (and-T₁ (g x) (every (map g xs)) u))
-      (join f g xs (and-T₂ (f x) (every (map f xs)) t) (and-T₂ (g x) (every (map g xs)) u))
-
-  all-map : {B : Type 0} (p : B → Bool) (h : A → B) (xs : List A) → all p (map h xs) ≡ every (map (λ x. p (h x)) xs)
-  all-map p h [] = refl
-  all-map p h (x ∷ xs) = ap (λ (b : Bool). p (h x) && b) (all-map p h xs)
-
-  -- a test of what rows hold is a test of the rows
-  pub all-rows : {B : Type 0} (p : B → Bool) (h : A → B) (n : ℕ) (xs : List A) → all p (rows h n xs) ≡ every (rows (λ x. p (h x)) n xs)
-  unfolding rows
-  all-rows p h n xs = all-map p h (take n xs)
-
-  pub imply-rows : (f g : A → Bool) → ((x : A) → T (f x) → T (g x)) → (n : ℕ) (xs : List A) → T (every (rows f n xs)) → T (every (rows g n xs))
-  unfolding rows
-  imply-rows f g h n xs t = imply f g h (take n xs) t
-
-  pub join-rows : (f g : A → Bool) (n : ℕ) (xs : List A) → T (every (rows f n xs)) → T (every (rows g n xs)) → T (every (rows (λ x. f x && g x) n xs))
-  unfolding rows
-  join-rows f g n xs t u = join f g (take n xs) t u
-
--- ---- a tag within its size is short
-
-pub fits-short : (t : Label) → T (tagFits t) → T (not (overlong (bytesOf t)))
-unfolding tagFits overlong bytesOf
-fits-short t h = not-T (ltb 32 (length (take (t .len) (t .bytes)))) (λ k. let q = leb→le (t .len) 32 h in let z : ⊥ = omega (arith, ltb→lt 32 (length (take (t .len) (t .bytes))) k, length-take (t .len) (t .bytes)) in z)
-
-pub place-short : (p : PlaceRecord) → T (placeFits p) → T (shortPlace (placeOf p))
-unfolding placeFits placeOf
-place-short p h = go (p .assigned) h
-  where
-    go : (b : Bool) → T (cond b (tagFits (p .tag)) true) → T (shortPlace (cond b (some (bytesOf (p .tag))) none))
-    go true h = fits-short (p .tag) h
-    go false h = tt
-
--- ---- one list
-
-list-parts : (l : InputList) → T (listFits l) → Passed (tagFits (l .tag) ∷ leb (l .count) 3 ∷ every (rows placeFits (l .count) (l .places)) ∷ [])
-unfolding listFits
-list-parts l h = passed (tagFits (l .tag) ∷ leb (l .count) 3 ∷ every (rows placeFits (l .count) (l .places)) ∷ []) h
-
-pub places-short : (l : InputList) → T (every (rows placeFits (l .count) (l .places))) → T (all shortPlace (rows placeOf (l .count) (l .places)))
-places-short l h = subst T (sym (all-rows shortPlace placeOf (l .count) (l .places))) (imply-rows placeFits (λ p. shortPlace (placeOf p)) place-short (l .count) (l .places) h)
-
-module _ (l : InputList) (size : length (l .places) ≡ 3) where
-  pub list-long : 32 < l .tag .len → false ≡ listSound l
-  unfolding listFits tagFits
-  list-long h = sym (rw (lt-leb (l .tag .len) 32 h))
-
-  pub list-none : l .count < 1 → false ≡ listSound l
-  list-none h = bool-ext false (listSound l) (λ z. absurd z)
-      (λ t. let q : 1 ≤ length (rows placeOf (l .count) (l .places)) = leb→le 1 (length (rows placeOf (l .count) (l .places))) (and-T₁ (leb 1 (length (rows placeOf (l .count) (l .places)))) (leb (length (rows placeOf (l .count) (l .places))) 3 && all shortPlace (rows placeOf (l .count) (l .places))) (and-T₂ (listFits l) (goodList (listOf l)) t)) in
-      let z : ⊥ = omega (arith, rows-length placeOf (l .places) (l .count)) in z)
-
-  pub list-many : 3 < l .count → false ≡ listSound l
-  list-many h = bool-ext false (listSound l) (λ z. absurd z)
-      (λ t. let q : l .count ≤ 3 = leb→le (l .count) 3 (list-parts l (and-T₁ (listFits l) (goodList (listOf l)) t) .1 .0) in let z : ⊥ = omega arith in z)
-
-  pub list-sound : l .tag .len ≤ 32 → 1 ≤ l .count → l .count ≤ 3 → every (rows placeFits (l .count) (l .places)) ≡ listSound l
-  unfolding listFits tagFits
-  list-sound a b c =
-      let n = rows-length placeOf (l .places) (l .count) in
-      bool-ext _ _
-      (λ t. and-T (listFits l) (goodList (listOf l)) (unpassed (tagFits (l .tag) ∷ leb (l .count) 3 ∷ every (rows placeFits (l .count) (l .places)) ∷ []) (le→leb (l .tag .len) 32 a, (le→leb (l .count) 3 c, (t, tt))))
-      (and-T (leb 1 (length (rows placeOf (l .count) (l .places)))) (leb (length (rows placeOf (l .count) (l .places))) 3 && all shortPlace (rows placeOf (l .count) (l .places))) (le→leb 1 (length (rows placeOf (l .count) (l .places))) (omega arith))
-      (and-T (leb (length (rows placeOf (l .count) (l .places))) 3) (all shortPlace (rows placeOf (l .count) (l .places))) (le→leb (length (rows placeOf (l .count) (l .places))) 3 (omega arith)) (places-short l t))))
-      (λ t. list-parts l (and-T₁ (listFits l) (goodList (listOf l)) t) .1 .1 .0)
-
--- ---- one component
-
-counted-zero : (n : ℕ) (o : Option (List Place)) → n ≡ 0 → counted n o ≡ true
-counted-zero n o e = rw e
-
-counted-none : (n : ℕ) → n ≢ 0 → counted n none ≡ false
-counted-none zero h = absurd (h refl)
-counted-none (suc n) h = refl
-
-counted-some : (n : ℕ) (l : List Place) → n ≢ 0 → counted n (some l) ≡ eqb (length l) n
-counted-some zero l h = absurd (h refl)
-counted-some (suc n) l h = refl
-
-module _ (ls : Table (List Place)) (e : ComponentEntry) where
-  pub entry-long : 32 < e .tag .len → entrySound ls e ≡ false
-  unfolding tagFits
-  entry-long h = rw (lt-leb (e .tag .len) 32 h)
-
-  module _ (short : e .tag .len ≤ 32) (n : ℕ) (takes : n ≡ inputCount (e .component)) where
-    short′ : tagFits (e .tag) ≡ true
-    unfolding tagFits
-    short′ = le-leb (e .tag .len) 32 short
-
-    pub entry-plain : n ≡ 0 → entrySound ls e ≡ true
-    entry-plain z = rw (short′, counted-zero (inputCount (e .component)) (find (bytesOf (e .tag)) ls) (sym takes ∙ z))
-
-    pub entry-missing : n ≢ 0 → find (bytesOf (e .tag)) ls ≡ none → entrySound ls e ≡ false
-    entry-missing z p = rw (short′, p, counted-none (inputCount (e .component)) (λ q. z (takes ∙ q)))
-
-    pub entry-found : n ≢ 0 → (l : List Place) → find (bytesOf (e .tag)) ls ≡ some l → entrySound ls e ≡ eqb (length l) n
-    entry-found z l p = rw (short′, p, counted-some (inputCount (e .component)) l (λ q. z (takes ∙ q)), takes)
 
 -- ---- the default
 

@@ -8,7 +8,8 @@ use lib.Dec.{leb}
 use Rattle.model.specs.declared.implicit_model.Model.{Model as Record}
 use Rattle.model.specs.Table.{distinct}
 use Rattle.model.specs.View.{rows, every, componentsOf, listsOf}
-use Rattle.validity.specs.Sound.{listSound, entrySound}
+use Rattle.sound_lists.specs.Sound.{listSound}
+use Rattle.sound_components.specs.Sound.{entrySound}
 use Rattle.validity.proofs.Laws.Passes.{checks, checks-passes}
 use Rattle.validity.proofs.is_valid.Statement.{statement}
 use Rattle.validity.proofs.is_valid.Tie as tie

@@ -16,7 +16,7 @@ use Rattle.edit.specs.Meets.{Meets}
 use Rattle.component_layout.specs.Components.{componentFrom, dataFrom}
 use Rattle.edit_rows.specs.EditRows.{given}
 use Rattle.input_rows.specs.Inputs.{inputsOf}
-use Rattle.steady.proofs.Laws.Row.{given-none, given-some}
+use Rattle.row_running.proofs.Laws.Row.{given-none, given-some}
 use Rattle.word_edits.specs.Edits.{functionOf, operationOf, dataOf, addedAs, componentEdit}
 
 module _ (kind a b c : ℕ) where

@@ -1,8 +1,12 @@
 -- `direct_adding::put::put_more` meets its contract. Assumes nothing.
+use native.Mathlib.Omega.{arith}
 use borrow.Author.Needs.{needs}
 use Rattle.direct_adding.proofs.Laws.Written.{more-written}
 use Rattle.direct_adding.proofs.put.put_more.Statement.{statement}
 use Rattle.direct_adding.proofs.put.put_more.Tie as tie
+
+returns : tie.Need-returns
+returns c = λ e h. absurd (let z : ⊥ = omega (arith, c .if1 .taken) in z)
 
 put-entry-requires : tie.Need-put-entry-requires
 put-entry-requires c κs = search needs
@@ -19,16 +23,17 @@ write-number-requires c κs = search needs
 same-length : tie.Need-same-length
 same-length c = search needs
 
-returns : tie.Need-returns
-returns c = let s = c .before .before .before .before .before .before .before .before .before .before .before .before .before in more-written (s .args .d) (s .pre .0) (s .pre .1) (c .before .before .before .before .before .before .before .before .before .before .put-entry .ensures) (c .before .before .before .before .before .before .write-place .ensures) (c .before .before .write-number .ensures)
+returns-2 : tie.Need-returns-2
+returns-2 c = let s = c .before .before .before .before .before .before .before .before .before .before .before .before .before .before in λ e h. more-written (s .args .d) e h (c .before .before .before .before .before .before .before .before .before .before .put-entry .ensures) (c .before .before .before .before .before .before .write-place .ensures) (c .before .before .write-number .ensures)
 
 pub put-more-spec : {M : Type 1} → statement M
 put-more-spec =
     tie.close
     (tie.spec
+    returns
     put-entry-requires
     write-place-requires
     add-write-number
     write-number-requires
     same-length
-    returns)
+    returns-2)

@@ -2,8 +2,8 @@
 use native.Mathlib.Omega.{arith}
 use borrow.Author.Needs.{needs}
 use Prim.Native.Nat.{_-_}
-use Rattle.steady.specs.Steps.{tagAt}
-use Rattle.steady.proofs.Laws.Row.{Resting, rest-start, rest-next, rest-end}
+use Rattle.newest.specs.Place.{tagAt}
+use Rattle.steady.proofs.Laws.Rows.{Resting, rest-start, rest-next, rest-end}
 use Rattle.steady.proofs.list.run_list.Statement.{statement}
 use Rattle.steady.proofs.list.run_list.Tie as tie
 
@@ -29,7 +29,7 @@ loop-less : tie.Need-loop-less Inv-loop μ-loop
 loop-less c = omega arith
 
 loop-again : tie.Need-loop-again Inv-loop μ-loop
-loop-again c = rest-next (c .before .before .loop-test .taken) (c .before .before .before .loop .inv) (c .before .run-row .ensures)
+loop-again c = rest-next (c .before .before .loop-test .taken) (c .before .before .before .loop .inv) (c .before .run-row .ensures (omega (arith, c .before .before .loop-test .taken)))
 
 returns : tie.Need-returns Inv-loop μ-loop
 returns c = rest-end (c .loop-test .left) (c .before .loop .inv)

@@ -13,7 +13,7 @@ product-by-requires c κs = search needs
 
 returns : tie.Need-returns
 unfolding normalized ofBits ofFields odd
-returns c = cc
+returns c = rw (c .product-by .ensures, c .before .magnitude .ensures)
 
 pub normalize-spec : {M : Type 1} → statement M
 normalize-spec = tie.close (tie.spec magnitude-requires product-by-requires returns)

@@ -1,0 +1,2 @@
+-- `Check`: a model checked.
+pub mod Check

@@ -1,0 +1,2 @@
+-- `Order`: a form's order.
+pub mod Order

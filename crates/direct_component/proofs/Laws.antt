@@ -1,0 +1,3 @@
+-- `Free`: the first free tag. `Component`: what `add_component` answers.
+pub mod Free
+pub mod Component

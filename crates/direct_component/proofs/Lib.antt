@@ -1,0 +1,2 @@
+-- `Laws` is what the functions' proofs cite.
+mod Laws

@@ -1,0 +1,2 @@
+-- `Pairs`: two indices in one loop.
+pub mod Pairs

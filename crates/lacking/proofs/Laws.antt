@@ -1,0 +1,2 @@
+-- `Least`: the least tag that the lists show.
+pub mod Least

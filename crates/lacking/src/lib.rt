@@ -1,0 +1,2 @@
+// What a form lacks.
+pub mod least;

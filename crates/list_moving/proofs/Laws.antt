@@ -1,0 +1,2 @@
+-- `Moving`: the row of one tag moved to another.
+pub mod Moving

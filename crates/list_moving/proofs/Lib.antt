@@ -1,0 +1,2 @@
+-- `Laws` is what the functions' proofs and renaming's cite.
+pub mod Laws

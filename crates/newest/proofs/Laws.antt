@@ -1,0 +1,2 @@
+-- `Place`: where the newest tag stands.
+pub mod Place

@@ -1,0 +1,2 @@
+-- `Laws` is what the proofs of the edits cite, in the crates above.
+pub mod Laws

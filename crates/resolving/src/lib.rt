@@ -1,0 +1,2 @@
+// The nodes that the tags in a model stand for.
+pub mod slots;

@@ -1,0 +1,2 @@
+-- `Row`: one row as an edit.
+pub mod Row

@@ -1,0 +1,3 @@
+-- What the functions' proofs cite, and document 01's cases.
+mod Signed
+mod Cases

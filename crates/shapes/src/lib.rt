@@ -1,0 +1,3 @@
+// The two shapes, with the distance to each.
+pub mod sphere;
+pub mod torus;

@@ -1,0 +1,2 @@
+-- `Unwiring`: each way out of `remove_input`.
+pub mod Unwiring

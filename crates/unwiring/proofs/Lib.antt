@@ -1,0 +1,2 @@
+-- `Laws` is what the function's proof cites.
+pub mod Laws
