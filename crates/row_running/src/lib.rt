@@ -12,7 +12,7 @@ use model::model_error::ModelError;
 use newest::place_after;
 ghost use mathlib.Core.Path.{_≡_};
 ghost use mathlib.Core.Logic.{_⊎_};
-ghost use Prim.Native.Nat.{_+_, _≤_};
+ghost use Prim.Native.Nat.{_+_, _≤_, _<_};
 ghost use lib.Dec.{leb};
 ghost use lib.ListN.{length};
 ghost use Rattle.model.specs.Edit.{addOperation};
@@ -129,6 +129,7 @@ fn holds_row(s: &[u8], at: usize) -> bool
 // The row run, by its number. Where no whole row stands, nothing is run.
 pub fn run_row(m: Model, s: &[u8], at: usize, target: &[u8], place: usize) -> Run
     ensures { λ r. ⌜ (at + 256 ≤ length (now (s .entry)) → Stepped (now (s .entry)) at m (tagAt (now (target .entry)) (now (s .entry)) place) (r .model) (tagAt (now (target .entry)) (now (s .entry)) (r .place))) ⌝ }
+    ensures { λ r. ⌜ (length (now (s .entry)) < at + 256 → (r .model ≡ m) × (r .place ≡ place)) ⌝ }
 {
     if !holds_row(s, at) {
         return Run { model: m, place };

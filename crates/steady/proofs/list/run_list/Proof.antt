@@ -29,7 +29,7 @@ loop-less : tie.Need-loop-less Inv-loop μ-loop
 loop-less c = omega arith
 
 loop-again : tie.Need-loop-again Inv-loop μ-loop
-loop-again c = rest-next (c .before .before .loop-test .taken) (c .before .before .before .loop .inv) (c .before .run-row .ensures (omega (arith, c .before .before .loop-test .taken)))
+loop-again c = rest-next (c .before .before .loop-test .taken) (c .before .before .before .loop .inv) (c .before .run-row .ensures .0 (omega (arith, c .before .before .loop-test .taken)))
 
 returns : tie.Need-returns Inv-loop μ-loop
 returns c = rest-end (c .loop-test .left) (c .before .loop .inv)
