@@ -56,8 +56,10 @@ fn in_rust(argument: &str) -> Option<&'static str> {
 
 fn of_the_crates() -> Signatures {
     let sources = [
+        "adding_operation_calls",
         "adding_calls",
         "calls",
+        "wiring_calls",
         "edit_lists",
         "asking",
         "compiling",

@@ -1,2 +1,2 @@
-// What a host calls to change what a model holds that it has in bytes (docs/ABI.md); crate adding_calls has what adds to it.
+// What a host calls to change a component of a model that it has in bytes (docs/ABI.md); crate wiring_calls has what changes wires, adding_calls and adding_operation_calls what adds.
 pub mod edits;

@@ -1,9 +1,9 @@
 // Runs the script of standard input, a command a line, on one model, and prints each answer; a line that begins with `#` is
 // printed as it stands, so that the output reads as a report.
 use model::implicit_model::Model;
-use protocol::words;
-use protocol::writing::put_byte;
 use script::answers;
+use spelling::words;
+use word_writing::put_byte;
 
 const OUT: i32 = 1;
 

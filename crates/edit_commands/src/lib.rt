@@ -3,8 +3,8 @@ use edit::Edited;
 use model::implicit_model::Model;
 use protocol::arguments::Arguments;
 use protocol::command::Command;
-use protocol::text::Text;
-use protocol::text::first;
+use spelling::text::Text;
+use spelling::text::first;
 
 // One tag.
 fn on_tag(m: Model, c: Command, t: Text, r: Arguments, line: &[u8]) -> Edited {

@@ -1,15 +1,15 @@
 // The arguments of a command, read from its line word by word.
-use crate::kind;
-use crate::kind::KindWord;
-use crate::number;
-use crate::number::Spelled;
-use crate::text::Text;
-use crate::text::text_of;
-use crate::words;
 use component::model_component::Component;
 use component::parameter::Data;
 use float::bits::float_of;
 use geometry::vec3f::Vec3;
+use spelling::kind;
+use spelling::kind::KindWord;
+use spelling::number;
+use spelling::number::Spelled;
+use spelling::text::Text;
+use spelling::text::text_of;
+use spelling::words;
 use tag::bytes::same_bytes;
 
 // What is read so far, where the next word starts, and whether every word was what it has to be.
@@ -165,6 +165,15 @@ impl Arguments {
         r.bad()
     }
 
+    // 0 or 1.
+    fn boolean(self, line: &[u8]) -> Arguments {
+        let b = self.decimal(line);
+        if 1 < b.index {
+            return b.bad();
+        }
+        b
+    }
+
     // The data of a parameter.
     pub fn data(self, line: &[u8]) -> Arguments {
         let r = self.choice(line);
@@ -176,11 +185,7 @@ impl Arguments {
             return r.vec3(line);
         }
         if same_bytes(w, b"boolean") {
-            let b = r.decimal(line);
-            if 1 < b.index {
-                return b.bad();
-            }
-            return b;
+            return r.boolean(line);
         }
         r.bad()
     }

@@ -1,6 +1,6 @@
 // The commands by their names, and what arguments each takes.
 use crate::arguments::Arguments;
-use crate::words;
+use spelling::words;
 use tag::bytes::same_bytes;
 
 pub enum Command {
@@ -80,25 +80,40 @@ pub fn named(w: &[u8]) -> Command {
     named_change(w)
 }
 
-// The arguments of a command. The record of `load` is read on its own.
-pub fn read(c: Command, line: &[u8]) -> Arguments {
-    let r = Arguments::from(words::next(line, 0));
+// The arguments of a command that adds: what is read from a line after r.
+fn read_adding(c: Command, r: Arguments, line: &[u8]) -> Arguments {
     match c {
-        Command::New => r,
         Command::AddConstant => r.tag(line).number(line),
         Command::AddFunction => r.tag(line).component(line),
         Command::AddOperation => r.tag(line).component(line).inputs(line),
         Command::AddComponent => r.tag(line).component(line),
+        _ => r,
+    }
+}
+
+// The arguments of a command that changes a model.
+fn read_change(c: Command, r: Arguments, line: &[u8]) -> Arguments {
+    match c {
         Command::AddInput => r.tag(line).tag(line).decimal(line),
         Command::RemoveInput => r.tag(line).decimal(line),
         Command::RemoveComponent => r.tag(line),
         Command::RenameComponent => r.tag(line).tag(line),
         Command::SetParameter => r.tag(line).tag(line).data(line),
+        _ => read_adding(c, r, line),
+    }
+}
+
+// The arguments of a command. The record of `load` is read on its own.
+pub fn read(c: Command, line: &[u8]) -> Arguments {
+    let r = Arguments::from(words::next(line, 0));
+    match c {
+        Command::New => r,
         Command::Compile => r.tag(line),
         Command::EvaluateAt => r.tag(line).vec3(line),
         Command::Dump => r,
         Command::Load => r,
         Command::Vec3 => r.operator(line),
         Command::Nothing => r,
+        _ => read_change(c, r, line),
     }
 }

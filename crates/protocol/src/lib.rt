@@ -1,8 +1,3 @@
-// The line protocol: words, tags, numbers and components read from a line, and written.
+// The commands of the line protocol: which one a line names, and its arguments.
 pub mod arguments;
 pub mod command;
-pub mod kind;
-pub mod number;
-pub mod text;
-pub mod words;
-pub mod writing;

@@ -7,8 +7,8 @@ use model::implicit_model::InputList;
 use model::implicit_model::Model;
 use model::implicit_model::Place;
 use protocol::arguments::Arguments;
-use protocol::text::text_of;
-use protocol::words;
+use spelling::text::text_of;
+use spelling::words;
 use tag::bytes::same_bytes;
 
 // What is read so far, where the next word starts, and whether every word was what it has to be.

@@ -6,13 +6,13 @@ use model::implicit_model::ComponentEntry;
 use model::implicit_model::InputList;
 use model::implicit_model::Model;
 use model::implicit_model::Place;
-use protocol::kind::put_component;
-use protocol::writing::put;
-use protocol::writing::put_decimal;
-use protocol::writing::put_place;
-use protocol::writing::put_tag;
 use tag::Tag;
 use tag::order::comes_before;
+use word_writing::kind::put_component;
+use word_writing::put;
+use word_writing::put_decimal;
+use word_writing::put_place;
+use word_writing::put_tag;
 
 // A place that names a tag.
 fn naming(t: Tag) -> Place {

@@ -1,11 +1,11 @@
 // Runs recorded commands on our model and holds each answer to the one that the Rust gave: after a command, `= ANSWER` is what
 // the Rust answered, and where docs/DIFFERENCES.md names a departure, `! CLASS ANSWER` is what ours has to be.
 use model::implicit_model::Model;
-use protocol::words;
-use protocol::writing::put_byte;
-use protocol::writing::put_decimal;
 use script::answers;
+use spelling::words;
 use tag::bytes::same_bytes;
+use word_writing::put_byte;
+use word_writing::put_decimal;
 
 const OUT: i32 = 1;
 
