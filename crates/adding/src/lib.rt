@@ -1,4 +1,6 @@
 // Adding a component without inputs: `add_constant` and `add_function`; and one component more, which every adding ends with.
+#![tactic(auto)]
+
 ghost use Rattle.std.specs.Prelude.{◌≡◌, ◌<◌};
 ghost use Rattle.model.specs.Edit.{add_constant, add_function};
 ghost use Rattle.edit.specs.Meets.{Meets};

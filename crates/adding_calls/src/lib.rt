@@ -1,4 +1,6 @@
 // What a host calls to add a constant or a function to a model that it holds in bytes (docs/ABI.md). Each is first tried in the bytes themselves, which copies nothing; where that does not say yes, the edit of the decoded record answers.
+#![tactic(auto)]
+
 ghost use Rattle.model.specs.Edit.{add_constant, add_function};
 ghost use Rattle.component_layout.specs.Components.{number};
 ghost use Rattle.word_edits.specs.Edits.{function_of};

@@ -1,4 +1,6 @@
 // Adding a component of any kind: `add_component`.
+#![tactic(auto)]
+
 ghost use Rattle.tag.specs.View.{bytes_of};
 ghost use Rattle.model.specs.Edit.{add_component};
 ghost use Rattle.model.specs.View.{components_of};

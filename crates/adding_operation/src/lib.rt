@@ -1,4 +1,6 @@
 // Adding an operation: `add_operation`; and a component with its list, which `add_component` ends with too.
+#![tactic(auto)]
+
 ghost use Rattle.std.specs.Prelude.{◌≡◌, false};
 ghost use Rattle.model.specs.Edit.{add_operation};
 ghost use Rattle.edit.specs.Meets.{Meets};

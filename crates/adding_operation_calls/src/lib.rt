@@ -1,4 +1,6 @@
 // What a host calls to add an operation with its inputs, or a component of any kind, to a model that it holds in bytes (docs/ABI.md). Each is first tried in the bytes themselves, which copies nothing; where that does not say yes, the edit of the decoded record answers.
+#![tactic(auto)]
+
 ghost use Rattle.model.specs.Edit.{add_operation};
 ghost use Rattle.edit_rows.specs.EditRows.{given as inputsGiven};
 ghost use Rattle.word_edits.specs.Edits.{component_edit, operation_of};

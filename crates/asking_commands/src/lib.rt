@@ -1,4 +1,6 @@
 // The commands that change no model, run on one: compile, evaluate_at, dump and the operators on vectors; and the answer of what is refused.
+#![tactic(auto)]
+
 use evaluating::evaluate::Evaluating;
 use float::bits::bits_of;
 use geometry::vec3f::Vec3;

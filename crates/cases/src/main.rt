@@ -1,5 +1,7 @@
 // Runs the script of standard input, a command a line, on one model, and prints each answer; a line that begins with `#` is
 // printed as it stands, so that the output reads as a report.
+#![tactic(auto)]
+
 use model::implicit_model::Model;
 use script::answers;
 use spelling::words;
@@ -8,7 +10,7 @@ use word_writing::put_byte;
 const OUT: i32 = 1;
 
 // The model, and how many bytes of the line that is being read are held.
-#[derive(Drop)]
+#[derive(Clone, Copy)]
 struct State {
     model: Model,
     held: usize,

@@ -1,4 +1,6 @@
 // The call that checks a model (docs/ABI.md).
+#![tactic(auto)]
+
 ghost use Rattle.opened.specs.Said.{held_in, Says};
 ghost use Rattle.checking.specs.Check.{checked};
 

@@ -1,4 +1,6 @@
 // The call that asks for a form's order (docs/ABI.md).
+#![tactic(auto)]
+
 ghost use Rattle.std.specs.Prelude.{◌≡◌, ◌*◌, ◌≤◌, length};
 ghost use Rattle.std.proofs.Math.Option.{some};
 ghost use Rattle.model.specs.View.{rows};

@@ -8,7 +8,7 @@ use geometry::vec3f::Vec3;
 use shapes::sphere::Sphere;
 use shapes::torus::Torus;
 
-#[derive(Drop)]
+#[derive(Clone, Copy)]
 pub enum Component {
     Constant(f64),
     Sphere(Sphere),
@@ -33,7 +33,7 @@ pub enum Component {
 }
 
 // A parameter set: the component with that field changed, or why it stays.
-#[derive(Drop)]
+#[derive(Clone, Copy)]
 pub enum Setting {
     Changed(Component),
     DoesNotFit,
@@ -41,7 +41,7 @@ pub enum Setting {
 }
 
 // A parameter read: its data, or nothing under that name.
-#[derive(Drop)]
+#[derive(Clone, Copy)]
 pub enum Reading {
     Read(Data),
     Nothing,

@@ -5,7 +5,7 @@ ghost use Rattle.component.specs.Parameter.{clamped, too_near};
 use geometry::vec3f::Vec3;
 use tag::Tag;
 
-#[derive(Drop)]
+#[derive(Clone, Copy)]
 pub enum Data {
     Value(f64),
     Vec3(Vec3),
@@ -13,14 +13,14 @@ pub enum Data {
 }
 
 // What a parameter takes; nothing, where there is no such parameter.
-#[derive(Drop)]
+#[derive(Clone, Copy)]
 pub enum DataType {
     Value,
     Vec3,
     Nothing,
 }
 
-#[derive(Drop)]
+#[derive(Clone, Copy)]
 pub struct Parameter {
     pub name: Tag,
     pub data_type: DataType,

@@ -7,7 +7,7 @@ ghost use Rattle.component_layout.specs.Numbers.{numbers_of, Worded};
 use component::model_component::Component;
 
 // Numbers that a kind does not use are +0.
-#[derive(Drop)]
+#[derive(Clone, Copy)]
 pub struct Numbers {
     pub kind: u64,
     pub a: f64,
@@ -17,7 +17,7 @@ pub struct Numbers {
     pub e: f64,
 }
 
-#[derive(Drop)]
+#[derive(Clone, Copy)]
 pub struct ComponentWords {
     pub kind: u64,
     pub a: u64,

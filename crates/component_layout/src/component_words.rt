@@ -8,13 +8,13 @@ use geometry::vec3f::Vec3;
 use shapes::sphere::Sphere;
 use shapes::torus::Torus;
 
-#[derive(Drop)]
+#[derive(Clone, Copy)]
 pub enum ComponentRead {
     Component(Component),
     NoComponent,
 }
 
-#[derive(Drop)]
+#[derive(Clone, Copy)]
 pub enum DataRead {
     Data(Data),
     NoData,

@@ -1,5 +1,5 @@
 // The kinds that are asked: document 01's cases P5 to P10, and each kind of component.
-#[derive(Drop)]
+#[derive(Clone, Copy)]
 pub enum Kind {
     Case,
     Constant,

@@ -1,5 +1,7 @@
 // Runs document 01's cases P5 to P10, and every kind of component on pairs or triples of a table of numbers, and prints each
 // that differs from the recorded answers of standard input, and how many agreed.
+#![tactic(auto)]
+
 mod kind;
 mod numbers;
 mod question;

@@ -6,7 +6,7 @@ use geometry::vec3f::Vec3;
 use shapes::sphere::Sphere;
 use shapes::torus::Torus;
 
-#[derive(Drop)]
+#[derive(Clone, Copy)]
 pub struct Question {
     pub component: Component,
     pub p: Vec3,

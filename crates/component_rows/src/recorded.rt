@@ -1,5 +1,5 @@
 // The recorded answers: a line each, the bits in 16 hexadecimal digits.
-#[derive(Drop)]
+#[derive(Clone, Copy)]
 pub enum Recorded {
     Bits(u64),
     Unread,

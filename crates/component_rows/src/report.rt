@@ -6,7 +6,7 @@ use component::model_component::Component;
 
 const OUT: i32 = 1;
 
-#[derive(Drop)]
+#[derive(Clone, Copy)]
 pub struct Tally {
     pub rows: u64,
     pub agreed: u64,

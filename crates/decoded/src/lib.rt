@@ -1,4 +1,6 @@
 // The five edits of what stands in a model in bytes, through the record that these hold. Each decodes, edits by value and stores: bytes that hold no model decode as a new one, and `store` answers 7.
+#![tactic(auto)]
+
 ghost use Rattle.model.specs.Edit.{add_input, remove_input, remove_component, rename_component, set_parameter};
 ghost use Rattle.word_edits.specs.Edits.{data_of};
 ghost use Rattle.storing.specs.Called.{Called};

@@ -1,4 +1,6 @@
 // The four edits that add a component to a model in bytes, through the record that these hold. Each decodes, edits by value and stores: bytes that hold no model decode as a new one, and `store` answers 7.
+#![tactic(auto)]
+
 ghost use Rattle.model.specs.Edit.{add_operation, add_constant, add_function};
 ghost use Rattle.component_layout.specs.Components.{number};
 ghost use Rattle.edit_rows.specs.EditRows.{given as inputsGiven};

@@ -38,7 +38,7 @@ pub(crate) fn is_ready(w: &[usize; 192], done: &[u8; 64], n: usize, x: usize) ->
     is_served(done, w[x * 3 + 2])
 }
 
-#[derive(Drop)]
+#[derive(Clone, Copy)]
 pub struct Working {
     pub ok: bool,
     pub value: f64,

@@ -8,7 +8,7 @@ use float::bits::bits_of;
 use geometry::vec3f::Vec3;
 use standing::{component_of_tag, wired};
 
-#[derive(Drop)]
+#[derive(Clone, Copy)]
 pub struct Direct {
     pub ok: bool,
     pub bits: u64,

@@ -24,7 +24,7 @@ fn waits_for(w: &[usize; 192], placed: &[u8; 64], x: usize) -> usize
     64
 }
 
-#[derive(Drop)]
+#[derive(Clone, Copy)]
 pub struct Line {
     pub at: [usize; 64],
     pub n: usize,

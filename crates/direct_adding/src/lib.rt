@@ -1,4 +1,6 @@
 // `add_constant` and `add_function`, made in the bytes of a model; and one component more, which every adding there ends with. A no changes nothing, and says nothing of the edit.
+#![tactic(auto)]
+
 pub mod put;
 
 ghost use Rattle.std.specs.Prelude.{◌≡◌, false};
@@ -14,7 +16,7 @@ use standing::stands;
 use tag::Tag;
 
 // The tag that was made, where one was.
-#[derive(Drop)]
+#[derive(Clone, Copy)]
 pub struct Added {
     pub ok: bool,
     pub tag: Tag,

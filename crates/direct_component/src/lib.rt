@@ -1,4 +1,6 @@
 // `add_component`, made in the bytes of a model. A no changes nothing, and says nothing of the edit.
+#![tactic(auto)]
+
 mod free;
 
 ghost use Rattle.tag.specs.View.{bytes_of};

@@ -1,4 +1,6 @@
 // `add_operation`, made in the bytes of a model; and a component with its list, which `add_component` ends with there too. A no changes nothing, and says nothing of the edit.
+#![tactic(auto)]
+
 mod put;
 
 ghost use Rattle.tag.specs.View.{bytes_of};

@@ -1,4 +1,6 @@
 // `remove_component` in the bytes of a model.
+#![tactic(auto)]
+
 ghost use Rattle.std.specs.Prelude.{◌≡◌, ◌<◌, length};
 ghost use Rattle.model.specs.Edit.{remove_component, done};
 ghost use Rattle.direct_rows.specs.Took.{Takes};

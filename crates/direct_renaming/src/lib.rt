@@ -1,4 +1,6 @@
 // `rename_component` in the bytes of a model.
+#![tactic(auto)]
+
 ghost use Rattle.std.specs.Prelude.{◌≡◌, ◌<◌, length};
 ghost use Rattle.tag.specs.View.{bytes_of};
 ghost use Rattle.model.specs.Edit.{rename_component, made};
@@ -45,7 +47,7 @@ fn rename_list(s: &mut [u8], j: usize, t: Tag)
 }
 
 // Whether it is renamed, and to which tag.
-#[derive(Drop)]
+#[derive(Clone, Copy)]
 pub struct Renamed {
     pub ok: bool,
     pub tag: Tag,

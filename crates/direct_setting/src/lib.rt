@@ -1,4 +1,6 @@
 // `set_parameter` in the bytes of a model. A yes is right; a no changes nothing, and says nothing of the edit.
+#![tactic(auto)]
+
 ghost use Rattle.model.specs.Edit.{set_parameter, done};
 ghost use Rattle.direct_rows.specs.Took.{Takes};
 

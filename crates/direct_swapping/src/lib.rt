@@ -1,4 +1,6 @@
 // Places that name a tag changed, in the bytes of a model: one place, one list, every list and the default.
+#![tactic(auto)]
+
 ghost use Rattle.std.specs.Prelude.{◌≡◌, ◌+◌, ◌≤◌, ◌<◌, length};
 ghost use Rattle.model.specs.View.{place_of};
 ghost use Rattle.direct_swapping.specs.Swapping.{NamesTag, PlaceSwapped, ListSwapped, ListsSwapped, Swapped};

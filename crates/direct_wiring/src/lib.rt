@@ -1,4 +1,6 @@
 // `add_input` and `remove_input` in the bytes of a model. A yes is right; a no changes nothing, and says nothing of the edit.
+#![tactic(auto)]
+
 ghost use Rattle.model.specs.Edit.{add_input, remove_input, done};
 ghost use Rattle.model.specs.View.{place_of};
 ghost use Rattle.direct_rows.specs.Took.{Takes};

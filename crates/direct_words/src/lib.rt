@@ -1,4 +1,6 @@
 // Edits made in the bytes whose component or inputs come in words. Words of no kind are left to the edit of the record, which refuses them.
+#![tactic(auto)]
+
 ghost use Rattle.tag.specs.View.{bytes_of};
 ghost use Rattle.model.specs.Edit.{add_operation, made};
 ghost use Rattle.edit_rows.specs.EditRows.{given};

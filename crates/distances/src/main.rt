@@ -1,4 +1,6 @@
 // Prints the distance from some points to a sphere, a dot and a torus: for reading, and by its bits.
+#![tactic(auto)]
+
 mod text;
 
 use shapes::sphere::Sphere;

@@ -1,7 +1,7 @@
 // A double as text for reading: six digits after the point, or a word where those say too little.
 
 // A column of text that grows from its right end; what has no room is left out.
-#[derive(Drop)]
+#[derive(Clone, Copy)]
 struct Column {
     bytes: [u8; 14],
     at: usize,

@@ -1,4 +1,6 @@
 // Whether the tags of a table are distinct, of components and of input lists.
+#![tactic(auto)]
+
 ghost use Rattle.std.specs.Prelude.{◌≡◌};
 ghost use Rattle.model.specs.Table.{distinct};
 ghost use Rattle.model.specs.View.{rows, component_of, list_of};

@@ -1,4 +1,6 @@
 // What an edit of a model hands back, and how it refuses.
+#![tactic(auto)]
+
 pub mod rows;
 
 ghost use Rattle.std.specs.Prelude.{[]};
@@ -12,7 +14,7 @@ use model::model_error::{Answer, Ending, ModelError};
 use tag::Tag;
 
 // An answer, with the model after the call.
-#[derive(Drop)]
+#[derive(Clone, Copy)]
 pub struct Edited {
     pub answer: Answer,
     pub model: Model,

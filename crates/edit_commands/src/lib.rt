@@ -1,4 +1,6 @@
 // The nine edits: a command with its arguments, made on a model.
+#![tactic(auto)]
+
 use edit::Edited;
 use model::implicit_model::Model;
 use protocol::arguments::Arguments;

@@ -1,4 +1,6 @@
 // What a host calls to begin a model in bytes, and to run a list of edits with the form asked after it (docs/ABI.md).
+#![tactic(auto)]
+
 ghost use Rattle.evaluating.specs.Evaluate.{point_of};
 ghost use Rattle.component_layout.specs.Components.{number};
 ghost use Rattle.edit_rows.specs.EditRows.{edits_of};

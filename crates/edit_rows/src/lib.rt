@@ -1,2 +1,4 @@
 // A list of edits in bytes (docs/LAYOUT.md, "A list of edits").
+#![tactic(auto)]
+
 pub mod edit_row;

@@ -15,14 +15,14 @@ use model::model_error::ModelError;
 use tag::Tag;
 
 // How an evaluation ended: with the bits of a number, or refused.
-#[derive(Drop)]
+#[derive(Clone, Copy)]
 pub enum Evaluating {
     Number(u64),
     Refused(ModelError),
 }
 
 // The answer, with the tag and the index that a refusal carries.
-#[derive(Drop)]
+#[derive(Clone, Copy)]
 pub struct Evaluation {
     pub answer: Evaluating,
     pub tag: Tag,

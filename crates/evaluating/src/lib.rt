@@ -1,2 +1,4 @@
 // A form's number at a point.
+#![tactic(auto)]
+
 pub mod evaluate;

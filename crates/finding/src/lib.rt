@@ -1,4 +1,6 @@
 // The rows of a model in bytes: a component or a list found by its tag, and the component in a row.
+#![tactic(auto)]
+
 ghost use Rattle.std.specs.Prelude.{◌≡◌, ◌<◌, min};
 ghost use Rattle.layout.specs.Words.{word};
 ghost use Rattle.component_layout.specs.Components.{component_read};

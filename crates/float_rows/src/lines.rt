@@ -5,7 +5,7 @@ use crate::{report, row};
 
 // The line that is being read, as far as it came, and what the lines before it gave. A row is shorter than 64 bytes,
 // so a line that fills them is none, whatever follows.
-#[derive(Drop)]
+#[derive(Clone, Copy)]
 pub struct State {
     line: [u8; 64],
     len: usize,

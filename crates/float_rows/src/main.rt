@@ -1,4 +1,6 @@
 // Runs the rows of standard input through the crate float, prints each that differs from its recorded answer, and how many agreed.
+#![tactic(auto)]
+
 mod lines;
 mod report;
 mod row;

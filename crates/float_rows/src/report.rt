@@ -1,7 +1,7 @@
 // What is printed.
 const OUT: i32 = 1;
 
-#[derive(Drop)]
+#[derive(Clone, Copy)]
 pub struct Tally {
     pub rows: u64,
     pub agreed: u64,

@@ -1,7 +1,7 @@
 // A row of the list: what is asked of which numbers and the recorded answer, each number its bits in 16 hexadecimal digits.
 use float::{arithmetic, bits, extrema};
 
-#[derive(Drop)]
+#[derive(Clone, Copy)]
 enum Asked {
     Root,
     Sum,
@@ -13,7 +13,7 @@ enum Asked {
 }
 
 // A root has no b.
-#[derive(Drop)]
+#[derive(Clone, Copy)]
 pub struct Row {
     asked: Asked,
     a: u64,
@@ -21,13 +21,13 @@ pub struct Row {
     pub answer: u64,
 }
 
-#[derive(Drop)]
+#[derive(Clone, Copy)]
 pub enum Line {
     Row(Row),
     Unread,
 }
 
-#[derive(Drop)]
+#[derive(Clone, Copy)]
 enum Spelled {
     Number(u64),
     Nothing,

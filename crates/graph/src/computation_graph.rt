@@ -17,7 +17,7 @@ use tag::Tag;
 use validity::is_valid;
 
 // How compile ended: with an order of so many, or refused.
-#[derive(Drop)]
+#[derive(Clone, Copy)]
 pub enum Compiling {
     Ordered(usize),
     Refused(ModelError),
@@ -25,7 +25,7 @@ pub enum Compiling {
 
 // The answer, with the tag and the index that a refusal carries. The order holds positions of the component table, as many as the answer says.
 // inputs[x * 3 + p] is the position of the component in place p of the one at x; 64 or more where there is no such place.
-#[derive(Drop)]
+#[derive(Clone, Copy)]
 pub struct CompiledGraph {
     pub answer: Compiling,
     pub tag: Tag,

@@ -8,7 +8,7 @@ use model::implicit_model::{ComponentEntry, InputList, Model};
 use tag::Tag;
 
 // Where a search ended: at a position of the table, or nowhere.
-#[derive(Drop)]
+#[derive(Clone, Copy)]
 pub enum Found {
     At(usize),
     Nothing,

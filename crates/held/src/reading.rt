@@ -11,21 +11,21 @@ use component::model_component::Component;
 use model::implicit_model::{ComponentEntry, InputList, Model, Place};
 use tag::Tag;
 
-#[derive(Drop)]
+#[derive(Clone, Copy)]
 pub enum ComponentAnswer {
     Held(Component),
     Nothing,
 }
 
 // The entry counts only where it is held.
-#[derive(Drop)]
+#[derive(Clone, Copy)]
 pub struct EntryAnswer {
     pub held: bool,
     pub entry: ComponentEntry,
 }
 
 // The list counts only where it is held.
-#[derive(Drop)]
+#[derive(Clone, Copy)]
 pub struct ListAnswer {
     pub held: bool,
     pub list: InputList,

@@ -1,4 +1,6 @@
 // The inputs that `add_operation` is handed, and the list made of them: what an adding shares, whether it is made in a record or in bytes.
+#![tactic(auto)]
+
 ghost use Rattle.std.specs.Prelude.{◌≡◌, true, ◌≤◌, replicate, take, [], ◌∷◌, map};
 ghost use Rattle.std.proofs.Math.Option.{none, some};
 ghost use Rattle.tag.specs.Tags.{overlong};

@@ -11,7 +11,7 @@ use tag::Tag;
 use tag::order::comes_before;
 
 // The least tag met so far, with an index; or none.
-#[derive(Drop)]
+#[derive(Clone, Copy)]
 pub struct Best {
     pub some: bool,
     pub tag: Tag,

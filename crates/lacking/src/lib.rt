@@ -1,2 +1,4 @@
 // What a form lacks.
+#![tactic(auto)]
+
 pub mod least;

@@ -1,3 +1,5 @@
 // Words and strings in the bytes that the host and the core share (docs/LAYOUT.md).
+#![tactic(auto)]
+
 pub mod words;
 pub mod writing;

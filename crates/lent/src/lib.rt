@@ -1,4 +1,6 @@
 // The edits on a model that is lent to be changed: thin, over the edits by value. Refused, what is lent is as it was.
+#![tactic(auto)]
+
 ghost use Rattle.model.specs.Edit.{add_constant, add_function, add_operation, add_component, add_input, remove_input, remove_component, rename_component, set_parameter};
 ghost use Rattle.input_rows.specs.Inputs.{inputs_of};
 ghost use Rattle.edit.specs.Meets.{Meets};

@@ -1,4 +1,6 @@
 // The list of one tag moved to another.
+#![tactic(auto)]
+
 ghost use Rattle.std.specs.Prelude.{◌≡◌, ◌≤◌};
 ghost use Rattle.tag.specs.View.{bytes_of};
 ghost use Rattle.list_moving.specs.Moving.{ListAt, without_list, list_under, Movable, ListMoved};

@@ -3,26 +3,26 @@ use component::model_component::Component;
 use tag::Tag;
 
 // A place names a tag, or is unassigned.
-#[derive(Drop)]
+#[derive(Clone, Copy)]
 pub struct Place {
     pub assigned: bool,
     pub tag: Tag,
 }
 
-#[derive(Drop)]
+#[derive(Clone, Copy)]
 pub struct ComponentEntry {
     pub tag: Tag,
     pub component: Component,
 }
 
-#[derive(Drop)]
+#[derive(Clone, Copy)]
 pub struct InputList {
     pub tag: Tag,
     pub count: usize,
     pub places: [Place; 3],
 }
 
-#[derive(Drop)]
+#[derive(Clone, Copy)]
 pub struct Model {
     pub components: [ComponentEntry; 64],
     pub component_count: usize,

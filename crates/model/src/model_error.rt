@@ -2,7 +2,7 @@
 use tag::Tag;
 
 // The refusals. Document 01's number of each is `number_of` in specs/Answer.antt.
-#[derive(Drop)]
+#[derive(Clone, Copy)]
 pub enum ModelError {
     TagTooLong,
     IncorrectInputCount,
@@ -20,7 +20,7 @@ pub enum ModelError {
 }
 
 // How an edit ended: done, done with a tag made, or refused.
-#[derive(Drop)]
+#[derive(Clone, Copy)]
 pub enum Ending {
     Done,
     Made,
@@ -28,7 +28,7 @@ pub enum Ending {
 }
 
 // The ending, and the tag and the index that go with it: the tag made, or what a refusal carries.
-#[derive(Drop)]
+#[derive(Clone, Copy)]
 pub struct Answer {
     pub ending: Ending,
     pub tag: Tag,

@@ -15,51 +15,51 @@ use model::implicit_model::{ComponentEntry, InputList, Model, Place};
 use row_reading::{is_blank, read_component};
 use tag::Tag;
 
-#[derive(Drop)]
+#[derive(Clone, Copy)]
 pub struct Decoded {
     pub ok: bool,
     pub model: Model,
 }
 
 // What was read; it counts only where it is ok.
-#[derive(Drop)]
+#[derive(Clone, Copy)]
 pub struct TagRead {
     pub ok: bool,
     pub tag: Tag,
 }
 
-#[derive(Drop)]
+#[derive(Clone, Copy)]
 pub struct PlaceRead {
     pub ok: bool,
     pub place: Place,
 }
 
-#[derive(Drop)]
+#[derive(Clone, Copy)]
 pub struct EntryRead {
     pub ok: bool,
     pub entry: ComponentEntry,
 }
 
-#[derive(Drop)]
+#[derive(Clone, Copy)]
 pub struct PlacesRead {
     pub ok: bool,
     pub places: [Place; 3],
 }
 
-#[derive(Drop)]
+#[derive(Clone, Copy)]
 pub struct ListRead {
     pub ok: bool,
     pub list: InputList,
 }
 
 // The table stands first: behind a bool its copy would begin at an odd byte, and a copy of this size was then twenty times slower.
-#[derive(Drop)]
+#[derive(Clone, Copy)]
 pub struct ComponentsRead {
     pub table: [ComponentEntry; 64],
     pub ok: bool,
 }
 
-#[derive(Drop)]
+#[derive(Clone, Copy)]
 pub struct ListsRead {
     pub table: [InputList; 128],
     pub ok: bool,

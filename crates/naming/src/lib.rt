@@ -1,4 +1,6 @@
 // What a screen shows of a component: the name of its kind, and its parameters.
+#![tactic(auto)]
+
 ghost use Rattle.std.specs.Prelude.{◌≡◌, [], ◌∷◌, length, get_or, take};
 ghost use Rattle.tag.specs.View.{Labelled};
 ghost use Rattle.naming.specs.Names.{type_name, sphere_parameters, torus_parameters, remap_parameters, parameters, parameter_at, no_parameter, Described};

@@ -1,4 +1,6 @@
 // The target's newest tag, as a place in the list of edits: 0 is the target that came in, any other a string of the list.
+#![tactic(auto)]
+
 ghost use Rattle.std.specs.Prelude.{◌≡◌};
 ghost use Rattle.tag.specs.Tags.{is};
 ghost use Rattle.model.specs.Answer.{answer_of};

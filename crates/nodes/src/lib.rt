@@ -1,4 +1,6 @@
 // Nodes by number: the reach of one, and an order of it with inputs ahead of users.
+#![tactic(auto)]
+
 ghost use Rattle.std.specs.Prelude.{◌≡◌, ◌<◌};
 ghost use Rattle.nodes.specs.Nodes.{served_of, ready_of, next_of, filled_of, whole_of, Listed, Met, IsReach, NextIn, Ordered, Whole, LaysOut};
 
@@ -56,7 +58,7 @@ fn next_ready(
     192
 }
 
-#[derive(Drop)]
+#[derive(Clone, Copy)]
 pub struct Laying {
     pub at: [usize; 192],
     pub n: usize,
@@ -107,7 +109,7 @@ fn meet(at: &mut [usize; 192], seen: &mut [u8; 192], n: usize, x: usize) -> usiz
     n + 1
 }
 
-#[derive(Drop)]
+#[derive(Clone, Copy)]
 pub struct Line {
     pub at: [usize; 192],
     pub n: usize,
@@ -174,7 +176,7 @@ fn all_whole(w: &[usize; 576], at: &[usize; 192], n: usize, seen: &[u8; 192]) ->
 }
 
 // An order of n, or that there is none; whether all of the reach is whole; and the marks of the reach.
-#[derive(Drop)]
+#[derive(Clone, Copy)]
 pub struct LaidOut {
     pub at: [usize; 192],
     pub n: usize,

@@ -1,4 +1,6 @@
 // What the calls that read a model share: the model that bytes hold, and the report.
+#![tactic(auto)]
+
 ghost use Rattle.tag.specs.View.{bytes_of};
 ghost use Rattle.opened.specs.Said.{plain, Says, Opens};
 

@@ -1,4 +1,6 @@
 // A parameter read.
+#![tactic(auto)]
+
 ghost use Rattle.std.specs.Prelude.{◌≡◌};
 ghost use Rattle.component.specs.Parameter.{under, read_parameter};
 

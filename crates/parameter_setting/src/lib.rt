@@ -1,4 +1,6 @@
 // A parameter set.
+#![tactic(auto)]
+
 ghost use Rattle.std.specs.Prelude.{◌≡◌, cond};
 ghost use Rattle.tag.specs.Tags.{is};
 ghost use Rattle.component.specs.Parameter.{apart, set_value, set_vec3, set_parameter};

@@ -1,4 +1,6 @@
 // One place of an input list replaced: what wiring and unwiring end in.
+#![tactic(auto)]
+
 ghost use Rattle.std.specs.Prelude.{◌≡◌};
 ghost use Rattle.model.specs.Edit.{done};
 ghost use Rattle.edit.specs.Ends.{Ends};

@@ -11,7 +11,7 @@ use tag::bytes::same_bytes;
 
 // What is read so far, where the next word starts, and whether every word was what it has to be.
 // `chosen` is where the word starts that names a kind, a type of data or an operator.
-#[derive(Drop)]
+#[derive(Clone, Copy)]
 pub struct Arguments {
     pub good: bool,
     pub at: usize,

@@ -3,7 +3,7 @@ use crate::arguments::Arguments;
 use spelling::words;
 use tag::bytes::same_bytes;
 
-#[derive(Drop)]
+#[derive(Clone, Copy)]
 pub enum Command {
     New,
     AddConstant,

@@ -8,7 +8,7 @@ use spelling::words;
 use tag::bytes::same_bytes;
 
 // What is read so far, where the next word starts, and whether every word was what it has to be.
-#[derive(Drop)]
+#[derive(Clone, Copy)]
 pub struct Loading {
     pub good: bool,
     pub at: usize,
@@ -16,14 +16,14 @@ pub struct Loading {
 }
 
 // A place read from a word.
-#[derive(Drop)]
+#[derive(Clone, Copy)]
 pub struct PlaceRead {
     pub good: bool,
     pub place: Place,
 }
 
 // A list, and where the next word starts.
-#[derive(Drop)]
+#[derive(Clone, Copy)]
 pub struct ListRead {
     pub good: bool,
     pub at: usize,

@@ -1,4 +1,6 @@
 // Removing: `remove_component`.
+#![tactic(auto)]
+
 pub mod swapping;
 
 ghost use Rattle.std.specs.Prelude.{◌≡◌};

@@ -1,4 +1,6 @@
 // Renaming: `rename_component`.
+#![tactic(auto)]
+
 ghost use Rattle.std.specs.Prelude.{◌≡◌, ◌<◌};
 ghost use Rattle.model.specs.Edit.{rename_component};
 ghost use Rattle.edit.specs.Meets.{Meets};

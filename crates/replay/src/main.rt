@@ -1,5 +1,7 @@
 // Runs recorded commands on our model and holds each answer to the one that the Rust gave: after a command, `= ANSWER` is what
 // the Rust answered, and where docs/DIFFERENCES.md names a departure, `! CLASS ANSWER` is what ours has to be.
+#![tactic(auto)]
+
 use model::implicit_model::Model;
 use script::answers;
 use spelling::words;
@@ -9,7 +11,7 @@ use word_writing::{put_byte, put_decimal};
 const OUT: i32 = 1;
 
 // How many answers were held to the Rust's, and how many of them are the same, differ as told, or are not explained.
-#[derive(Drop)]
+#[derive(Clone, Copy)]
 struct Tally {
     answers: usize,
     same: usize,
@@ -19,7 +21,7 @@ struct Tally {
 
 // The model, how many bytes of the line that is being read are held, how many our last answer has, and whether it differs from
 // the Rust's and no class has said so yet.
-#[derive(Drop)]
+#[derive(Clone, Copy)]
 struct State {
     model: Model,
     held: usize,

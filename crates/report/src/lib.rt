@@ -1,4 +1,6 @@
 // The report that every call writes: 64 bytes with its code, what a refusal carries, the tag made and the number answered (docs/ABI.md).
+#![tactic(auto)]
+
 ghost use Rattle.std.specs.Prelude.{◌≡◌, ◌<◌, ◌≤◌, length, get_or};
 ghost use Rattle.tag.specs.View.{bytes_of};
 ghost use Rattle.model.specs.Answer.{number_of};

@@ -25,7 +25,7 @@ pub fn node_of(m: Model, t: Tag) -> usize
 }
 
 // What stands in a slot of a list: a tag (kind 0), an unassigned place (193), or nothing (194).
-#[derive(Drop)]
+#[derive(Clone, Copy)]
 pub struct Slot {
     pub kind: usize,
     pub tag: Tag,

@@ -1,4 +1,6 @@
 // Reading at a place (docs/LAYOUT.md): what decoding a model and checking its bytes share.
+#![tactic(auto)]
+
 ghost use Rattle.std.specs.Prelude.{◌≡◌, ◌-◌};
 ghost use Rattle.component_layout.specs.Components.{component_read};
 ghost use Rattle.rows.specs.Rows.{blank, six_in, same_words, component_in};

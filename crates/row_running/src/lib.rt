@@ -1,4 +1,6 @@
 // One row of a list of edits, run.
+#![tactic(auto)]
+
 ghost use Rattle.std.specs.Prelude.{◌≡◌, ◌⊎◌, ◌+◌, ◌≤◌, ◌<◌, leb, length};
 ghost use Rattle.model.specs.Edit.{add_operation};
 ghost use Rattle.edit.specs.Meets.{Meets};
@@ -17,7 +19,7 @@ use model::model_error::ModelError;
 use newest::place_after;
 
 // A model, and the place of the target's newest tag.
-#[derive(Drop)]
+#[derive(Clone, Copy)]
 pub struct Run {
     pub model: Model,
     pub place: usize,

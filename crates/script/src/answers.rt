@@ -12,7 +12,7 @@ use tag::Tag;
 use word_writing::{put, put_tag};
 
 // The model after a line, and how many bytes its answer has.
-#[derive(Drop)]
+#[derive(Clone, Copy)]
 pub struct Answered {
     pub model: Model,
     pub len: usize,

@@ -1,2 +1,4 @@
 // A script of the line protocol: a line run on a model, and its answer written.
+#![tactic(auto)]
+
 pub mod answers;

@@ -1,4 +1,6 @@
 // A parameter set: `set_parameter`.
+#![tactic(auto)]
+
 ghost use Rattle.model.specs.Edit.{set_parameter};
 ghost use Rattle.edit.specs.Meets.{Meets};
 

@@ -4,7 +4,7 @@ ghost use Rattle.shapes.specs.Distance.{to_sphere};
 
 use geometry::vec3f::Vec3;
 
-#[derive(Drop)]
+#[derive(Clone, Copy)]
 pub struct Sphere {
     pub centre: Vec3,
     pub radius: f64,

@@ -5,7 +5,7 @@ ghost use Rattle.shapes.specs.Signed.{signed_like};
 
 use geometry::vec3f::Vec3;
 
-#[derive(Drop)]
+#[derive(Clone, Copy)]
 pub struct Torus {
     pub centre: Vec3,
     pub r: f64,

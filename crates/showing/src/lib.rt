@@ -1,2 +1,4 @@
 // The calls that show what a model holds (docs/ABI.md).
+#![tactic(auto)]
+
 pub mod tables;

@@ -1,4 +1,6 @@
 // The calls that show a parameter: the data under a name, and what a screen shows of a kind (docs/ABI.md).
+#![tactic(auto)]
+
 ghost use Rattle.std.specs.Prelude.{◌≡◌};
 ghost use Rattle.opened.specs.Said.{Says};
 ghost use Rattle.showing_parameters.specs.Parameters.{read, parameter_in, ShowsParameter, kind_of, of_kind, takes, of_parameter};

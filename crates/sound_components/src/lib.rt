@@ -1,4 +1,6 @@
 // Components judged by refusal 7: tags within their size, and a list of its count for every operation.
+#![tactic(auto)]
+
 ghost use Rattle.std.specs.Prelude.{◌≡◌};
 ghost use Rattle.model.specs.View.{rows, every, lists_of};
 ghost use Rattle.sound_components.specs.Sound.{entry_sound};

@@ -1,4 +1,6 @@
 // Input lists judged by refusal 7: their count of places, and tags within their size.
+#![tactic(auto)]
+
 ghost use Rattle.std.specs.Prelude.{◌≡◌};
 ghost use Rattle.model.specs.View.{rows, every, place_fits};
 ghost use Rattle.sound_lists.specs.Sound.{list_sound};

@@ -6,14 +6,14 @@ use shapes::torus::Torus;
 use tag::bytes::same_bytes;
 
 // A component of the kind that a word names, or that it names none.
-#[derive(Drop)]
+#[derive(Clone, Copy)]
 pub enum KindWord {
     Of(Component),
     Nothing,
 }
 
 // A component's numbers, of which the first `count` are its.
-#[derive(Drop)]
+#[derive(Clone, Copy)]
 pub struct Measures {
     pub values: [f64; 5],
     pub count: usize,

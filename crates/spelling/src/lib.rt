@@ -1,4 +1,6 @@
 // The words of a line, and what a word spells: a number, a tag or a name, a kind of component.
+#![tactic(auto)]
+
 pub mod kind;
 pub mod number;
 pub mod text;

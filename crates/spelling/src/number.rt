@@ -2,7 +2,7 @@
 ghost use Rattle.std.specs.Prelude.{◌≤◌};
 
 // The number that a word spells, or that it spells none.
-#[derive(Drop)]
+#[derive(Clone, Copy)]
 pub enum Spelled {
     Number(u64),
     Nothing,

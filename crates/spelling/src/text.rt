@@ -4,7 +4,7 @@ use tag::Tag;
 use tag::bytes::same_bytes;
 
 // The bytes that a word spells, where it was read. No tag or name that fits has 64 bytes, so what is behind them changes no answer.
-#[derive(Drop)]
+#[derive(Clone, Copy)]
 pub struct Text {
     pub read: bool,
     pub bytes: [u8; 64],

@@ -1,4 +1,6 @@
 // 7 straight from the bytes of a model, and the wires: which component stands in each place of a component's list. Sound and not complete: a no says nothing.
+#![tactic(auto)]
+
 mod names;
 
 ghost use Rattle.std.specs.Prelude.{◌≡◌, true, false, ◌+◌, ◌≤◌, ◌<◌, length};
@@ -92,7 +94,7 @@ fn is_listed(s: &[u8], i: usize, o: usize) -> bool
     read_word(s, 5736 + 168 * o) == n as u64
 }
 
-#[derive(Drop)]
+#[derive(Clone, Copy)]
 pub struct Owning {
     pub ok: bool,
     pub at: [usize; 64],
@@ -175,7 +177,7 @@ fn wires(s: &[u8], keys: &[u64; 128], n: usize, owners: &[usize; 64]) -> [usize;
 }
 
 // The components' keys and wires, and how many they are.
-#[derive(Drop)]
+#[derive(Clone, Copy)]
 pub struct Standing {
     pub ok: bool,
     pub keys: [u64; 128],

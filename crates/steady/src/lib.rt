@@ -1,4 +1,6 @@
 // A list of edits run on a model, and the form asked after it.
+#![tactic(auto)]
+
 mod list;
 
 ghost use Rattle.evaluating.specs.Evaluate.{EvaluatesAs, point_of};
@@ -13,7 +15,7 @@ use model::implicit_model::Model;
 use model::model_error::ModelError;
 
 // What the form answered, and the model after the list.
-#[derive(Drop)]
+#[derive(Clone, Copy)]
 pub struct AfterList {
     pub evaluation: Evaluation,
     pub model: Model,

@@ -1,4 +1,6 @@
 // Tags: byte strings of at most 32 bytes.
+#![tactic(auto)]
+
 pub mod bytes;
 pub mod numbered;
 pub mod order;
@@ -7,7 +9,7 @@ ghost use Rattle.std.specs.Prelude.{◌≡◌, min, take};
 ghost use Rattle.tag.specs.Tags.{is, empty};
 ghost use Rattle.tag.specs.View.{bytes_of, Made};
 
-#[derive(Drop)]
+#[derive(Clone, Copy)]
 pub struct Tag {
     pub bytes: [u8; 32],
     pub len: usize,

@@ -7,7 +7,7 @@ ghost use Rattle.tag.specs.Fitted.{Fitted};
 use crate::{Tag, at_most, tag_of};
 
 // Whether the bytes fit a tag, and the tag of the first 32 of them.
-#[derive(Drop)]
+#[derive(Clone, Copy)]
 pub struct Numbered {
     pub fits: bool,
     pub tag: Tag,

@@ -1,4 +1,6 @@
 // Unwiring: `remove_input`.
+#![tactic(auto)]
+
 ghost use Rattle.model.specs.Edit.{remove_input};
 ghost use Rattle.edit.specs.Meets.{Meets};
 

@@ -1,4 +1,6 @@
 // Validity: whether a model is one that refusal 7 lets pass.
+#![tactic(auto)]
+
 ghost use Rattle.std.specs.Prelude.{◌≡◌};
 ghost use Rattle.model.specs.View.{components_of, passes};
 ghost use Rattle.validity.specs.Sound.{default_sound};

@@ -1,4 +1,6 @@
 // The walk of `add_input`: from the source along its inputs, to the target.
+#![tactic(auto)]
+
 ghost use Rattle.std.specs.Prelude.{◌≡◌, ◌<◌};
 ghost use Rattle.tag.specs.View.{bytes_of};
 ghost use Rattle.model.specs.View.{lists_of};
@@ -9,7 +11,7 @@ use model::implicit_model::Model;
 use tag::Tag;
 
 // The rows of the lists that have been in line, in their sequence, and a mark for each.
-#[derive(Drop)]
+#[derive(Clone, Copy)]
 pub struct Line {
     pub rows: [usize; 128],
     pub seen: [bool; 128],
@@ -17,7 +19,7 @@ pub struct Line {
 }
 
 // How the walk ended: clear, at the target, or at an unassigned place of the list at a row.
-#[derive(Drop)]
+#[derive(Clone, Copy)]
 pub enum Ended {
     Clear,
     Met,

@@ -1,4 +1,6 @@
 // Wiring: `add_input`.
+#![tactic(auto)]
+
 ghost use Rattle.tag.specs.View.{bytes_of};
 ghost use Rattle.model.specs.Edit.{add_input};
 ghost use Rattle.edit.specs.Meets.{Meets};

@@ -1,4 +1,6 @@
 // What a host calls to set and to remove a wire of a model that it holds in bytes (docs/ABI.md). Each is first tried in the bytes themselves, which copies nothing; where that does not say yes, the edit of the decoded record answers.
+#![tactic(auto)]
+
 ghost use Rattle.model.specs.Edit.{add_input, remove_input};
 ghost use Rattle.storing.specs.Called.{Called};
 

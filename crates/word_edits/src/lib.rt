@@ -1,4 +1,6 @@
 // Edits whose component, inputs or data come in words. Words of no kind are an edit that is refused with 4.
+#![tactic(auto)]
+
 ghost use Rattle.std.specs.Prelude.{◌≡◌};
 ghost use Rattle.model.specs.Edit.{add_operation};
 ghost use Rattle.edit.specs.Meets.{Meets};

@@ -1,4 +1,6 @@
 // An answer written into bytes that the caller lends. Each call takes how many bytes are written, and answers how many are then; what does not fit is left out.
+#![tactic(auto)]
+
 pub mod kind;
 
 use model::implicit_model::Place;

@@ -1,2 +1,4 @@
 // Arithmetic on numbers of two words.
+#![tactic(auto)]
+
 pub mod product;

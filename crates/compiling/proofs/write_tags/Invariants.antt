@@ -1,0 +1,20 @@
+-- `write_tags` meets its contract. Assumes nothing.
+use native.Mathlib.Omega.{arith}
+use borrow.Author.Rules.{rules}
+use Prim.Native.Nat.{ℕ, ◌*◌, ◌-◌, ◌≤◌, ◌<◌}
+use mathlib.Core.Path.{◌≡◌, subst}
+use mathlib.Core.Option.{some}
+use lib.ListN.{length, get_or, length-map}
+use Rattle.model.specs.View.{rows}
+use Rattle.graph.specs.Compile.{tag_at}
+use Rattle.rows.specs.Rows.{rows_in}
+use Rattle.rows.specs.Written.{Wrote}
+use Rattle.compiling.specs.Order.{tag_row}
+use Rattle.compiling.proofs.Laws.Order.{order_few, order_small, tags-none, tags-more}
+use Rattle.compiling.proofs.write_tags.Given as goal
+
+abbrev pub invariant-loop-i : goal.invariant-loop-i
+invariant-loop-i l = (l.i ≤ l.n) × Wrote (λ u. rows_in (tag_row u) l.i) (some (rows (tag_at l.at) l.i l.initial.order)) 0 (40 * l.i) l.m l.order
+
+abbrev pub decreases-loop-i : goal.decreases-loop-i
+decreases-loop-i l = l.n - l.i

@@ -1,0 +1,22 @@
+-- `move_last` meets its contract. Assumes nothing.
+use borrow.Author.Rules.{rules}
+use mathlib.Core.Path.{sym, ap, subst, ◌∙◌}
+use lib.ListN.{take}
+use Rattle.tag.specs.Tags.{Tag}
+use Rattle.tag.specs.View.{Made}
+use Rattle.component_layout.specs.Components.{component_read}
+use Rattle.direct_removing.proofs.Laws.Removing.{moved-itself, moved_nothing, moved-over}
+use Rattle.direct_removing.proofs.move_last.Goals as goal
+
+pub returns-then-i-last : goal.returns-then-i-last
+returns-then-i-last c = moved-itself c.if-i-last.true
+
+pub returns-in_default : goal.returns-in_default
+returns-in_default c = moved_nothing
+
+pub returns : goal.returns
+returns c =
+    moved-over c.tag_of-t.result c.in-Component.c c.requires.0 c.requires.1.0 c.if-i-last.false
+    (sym (ap component_read c.in-Component.is) ∙ c.component_in_row-read.ensures c.requires.1.1)
+    (subst (λ (x : Tag). Made (take 32 x) c.tag_of-t.result) c.read_text-u.ensures c.tag_of-t.ensures)
+    c.put_entry.ensures

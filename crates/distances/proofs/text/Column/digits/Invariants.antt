@@ -1,0 +1,9 @@
+-- `distances::text::Column::digits` ends: what is left of the number falls. Assumes nothing.
+use Rattle.std.proofs.Common.{rules}
+use Rattle.distances.proofs.text.Column.digits.Given as goal
+
+abbrev pub invariant-loop-rest : goal.invariant-loop-rest
+invariant-loop-rest l = Unit
+
+abbrev pub decreases-loop-rest : goal.decreases-loop-rest
+decreases-loop-rest l = l.rest

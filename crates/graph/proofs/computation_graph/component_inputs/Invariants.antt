@@ -1,0 +1,13 @@
+-- `graph::computation_graph::component_inputs` meets its contract. Assumes nothing.
+use native.Mathlib.Omega.{arith}
+use Prim.Native.Nat.{ℕ, ◌≤◌, ◌-◌}
+use mathlib.Core.Path.{◌≡◌, refl, subst}
+use lib.ListN.{length, take, length-set, length-replicate}
+use Rattle.tag.proofs.Laws.View.{byte_stored}
+use Rattle.graph.proofs.computation_graph.component_inputs.Given as goal
+
+abbrev pub invariant-loop-i : goal.invariant-loop-i
+invariant-loop-i l = (l.i ≤ 192) × (length l.o ≡ 192) × (take l.i l.o ≡ take l.i l.w)
+
+abbrev pub decreases-loop-i : goal.decreases-loop-i
+decreases-loop-i l = 192 - l.i

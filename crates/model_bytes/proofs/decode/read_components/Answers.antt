@@ -1,0 +1,25 @@
+-- `read_components` meets its contract. Assumes nothing.
+use Prim.Native.Nat.{◌-◌, ◌≤◌}
+use mathlib.Core.Path.{◌≡◌, refl}
+use native.Mathlib.Omega.{arith}
+use borrow.Author.Rules.{rules}
+use borrow.Author.Tests.{not-true, not-false}
+use lib.ListN.{length, length-set}
+use Rattle.model.specs.View.{component_of, entry_fits}
+use Rattle.model_bytes.specs.ModelBytes.{entry_row}
+use Rattle.model_bytes.proofs.Laws.Reading.{Sofar, sofar_none, sofar_more, sofar_stop, sofar_all}
+use Rattle.model_bytes.proofs.decode.read_components.Goals as goal
+
+pub loop-i-init : goal.loop-i-init
+loop-i-init c = (omega arith, refl, sofar_none component_of entry_fits _ _)
+
+pub returns-then-not-read : goal.returns-then-not-read
+returns-then-not-read c =
+    sofar_stop component_of entry_fits _ c.loop-i-test.true c.read_entry-read.ensures (not-true _ c.if-not-read.true)
+
+pub loop-i-preserved : goal.loop-i-preserved
+loop-i-preserved c =
+    (omega arith, simp length-set c.loop-i.invariant.1, sofar_more component_of entry_fits _ c.loop-i.invariant.2 (omega (arith, c.loop-i.invariant.1, c.loop-i-test.true, c.requires.0)) c.read_entry-read.ensures (not-false _ c.if-not-read.false))
+
+pub returns : goal.returns
+returns c = sofar_all component_of entry_fits _ c.loop-i.invariant.2 (let z : c.loop-i.i ≡ c.args.n = omega arith in z)

@@ -1,0 +1,17 @@
+-- `read_components` meets its contract. Assumes nothing.
+use Prim.Native.Nat.{◌-◌, ◌≤◌}
+use mathlib.Core.Path.{◌≡◌, refl}
+use native.Mathlib.Omega.{arith}
+use borrow.Author.Rules.{rules}
+use borrow.Author.Tests.{not-true, not-false}
+use lib.ListN.{length, length-set}
+use Rattle.model.specs.View.{component_of, entry_fits}
+use Rattle.model_bytes.specs.ModelBytes.{entry_row}
+use Rattle.model_bytes.proofs.Laws.Reading.{Sofar, sofar_none, sofar_more, sofar_stop, sofar_all}
+use Rattle.model_bytes.proofs.decode.read_components.Given as goal
+
+abbrev pub invariant-loop-i : goal.invariant-loop-i
+invariant-loop-i l = (l.i ≤ l.n) × (length l.entries ≡ 64) × Sofar component_of entry_fits (entry_row l.s) l.i l.entries
+
+abbrev pub decreases-loop-i : goal.decreases-loop-i
+decreases-loop-i l = l.n - l.i

@@ -1,0 +1,17 @@
+-- `read_places` meets its contract. Assumes nothing.
+use Prim.Native.Nat.{◌-◌, ◌≤◌}
+use mathlib.Core.Path.{◌≡◌, refl}
+use native.Mathlib.Omega.{arith}
+use borrow.Author.Rules.{rules}
+use borrow.Author.Tests.{not-true, not-false}
+use lib.ListN.{length, length-set}
+use Rattle.model.specs.View.{place_of, place_fits}
+use Rattle.rows.specs.Rows.{place_row}
+use Rattle.model_bytes.proofs.Laws.Reading.{Sofar, sofar_none, sofar_more, sofar_stop, sofar_all}
+use Rattle.model_bytes.proofs.decode.read_places.Given as goal
+
+abbrev pub invariant-loop-i : goal.invariant-loop-i
+invariant-loop-i l = (l.i ≤ l.n) × (length l.places ≡ 3) × Sofar place_of place_fits (place_row l.s l.at) l.i l.places
+
+abbrev pub decreases-loop-i : goal.decreases-loop-i
+decreases-loop-i l = l.n - l.i

@@ -1,0 +1,7 @@
+-- `read_tag` meets its contract. Assumes nothing.
+use borrow.Author.Rules.{rules}
+use Rattle.model_bytes.proofs.Laws.Reading.{tag_read}
+use Rattle.model_bytes.proofs.decode.read_tag.Goals as goal
+
+pub returns : goal.returns
+returns c = tag_read _ _ c.read_word-n.ensures c.read_text.ensures

@@ -1,0 +1,19 @@
+-- `is_list` meets its contract. Assumes nothing.
+use borrow.Author.Tests.{not-false}
+use Rattle.model_holding.proofs.Laws.{not_held, list-checked}
+use native.Mathlib.Omega.{arith}
+use borrow.Author.Rules.{rules}
+use Rattle.model_holding.proofs.holds.is_list.Goals as goal
+
+pub returns-then-not-is_tag : goal.returns-then-not-is_tag
+returns-then-not-is_tag c = not_held
+
+pub returns-then-n-gt3 : goal.returns-then-n-gt3
+returns-then-n-gt3 c = not_held
+
+pub returns-then-not-is_blank : goal.returns-then-not-is_blank
+returns-then-not-is_blank c = not_held
+
+pub returns : goal.returns
+returns c =
+    λ e. list-checked _ _ c.read_word-n.ensures (omega arith) (c.is_tag.ensures (c.if-not-is_tag.false) c.is_blank.ensures (c.if-not-is_blank.false (c.are_places.ensures e)

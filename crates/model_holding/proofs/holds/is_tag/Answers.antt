@@ -1,0 +1,7 @@
+-- `is_tag` meets its contract. Assumes nothing.
+use Rattle.model_holding.proofs.Laws.{tag_held}
+use borrow.Author.Rules.{rules}
+use Rattle.model_holding.proofs.holds.is_tag.Goals as goal
+
+pub returns : goal.returns
+returns c = λ e. tag_held _ _ c.read_word-n.ensures (c.is_text.ensures e)

@@ -1,0 +1,32 @@
+-- `removing::swapping::list_swapped` meets its contract. Assumes nothing.
+use native.Mathlib.Omega.{arith}
+use borrow.Author.Rules.{rules}
+use mathlib.Core.Path.{◌≡◌, refl}
+use Prim.Native.Nat.{◌-◌}
+use Rattle.tag.specs.View.{bytes_of}
+use Rattle.model.specs.Edit.{swap}
+use Rattle.model.specs.View.{place_of, place_fits}
+use Rattle.removing.proofs.Laws.Swept.{swept_start, swept_step}
+use Rattle.removing.proofs.Laws.Swapping.{SweptList, list_swapped}
+use Rattle.removing.proofs.swapping.list_swapped.Reads as reads
+use Rattle.removing.proofs.swapping.list_swapped.Lts as lts
+use Rattle.held.proofs.find.places_held.Reads as places-held-reads
+use Rattle.removing.proofs.swapping.place_swapped.Reads as place-swapped-reads
+use Rattle.removing.proofs.swapping.list_swapped.Goals as goal
+
+pub loop-i-init : goal.loop-i-init
+loop-i-init c =
+    let a = c.args in (refl, refl, swept_start place_of (swap (bytes_of a.t) (place_of a.by)) place_fits (place_fits a.by) a.l.count a.l.places)
+
+pub loop-i-preserved : goal.loop-i-preserved
+loop-i-preserved c =
+    let a = c.args in
+    let v = c.loop-i.invariant in
+    let x = c.place_swapped-q.ensures in
+    (v.0, v.1, swept_step place_of (swap (bytes_of a.t) (place_of a.by)) place_fits (place_fits a.by) a.l.count a.l.places c.loop-i.w.places c.loop-i.i _ c.place_swapped-q.result v.2 (omega arith) x.place x.fits)
+
+pub returns : goal.returns
+returns c =
+    let a = c.args in
+    let v = c.loop-i.invariant in
+    list_swapped (bytes_of a.t) a.by a.l c.loop-i.w c.loop-i.i v.0 v.1 v.2 (omega arith)

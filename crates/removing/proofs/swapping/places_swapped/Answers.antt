@@ -1,0 +1,34 @@
+-- `removing::swapping::places_swapped` meets its contract. Assumes nothing.
+use native.Mathlib.Omega.{arith}
+use borrow.Author.Rules.{rules}
+use mathlib.Core.Path.{◌≡◌, refl}
+use Prim.Native.Nat.{◌-◌}
+use Rattle.tag.specs.View.{bytes_of}
+use Rattle.model.specs.View.{place_of, list_of, place_fits, list_fits}
+use Rattle.removing.specs.Swapping.{swap_list}
+use Rattle.removing.proofs.Laws.Swept.{swept_start, swept_step}
+use Rattle.removing.proofs.Laws.Swapping.{SweptLists, places_swapped}
+use Rattle.removing.proofs.swapping.places_swapped.Reads as reads
+use Rattle.removing.proofs.swapping.places_swapped.Lts as lts
+use Rattle.held.proofs.find.lists_held.Reads as lists-held-reads
+use Rattle.removing.proofs.swapping.list_swapped.Reads as list-swapped-reads
+use Rattle.removing.proofs.swapping.place_swapped.Reads as place-swapped-reads
+use Rattle.removing.proofs.swapping.places_swapped.Goals as goal
+
+pub loop-i-init : goal.loop-i-init
+loop-i-init c =
+    let a = c.args in
+    (refl, refl, refl, refl, swept_start list_of (swap_list (bytes_of a.t) (place_of a.by)) list_fits (place_fits a.by) a.m.list_count a.m.lists)
+
+pub loop-i-preserved : goal.loop-i-preserved
+loop-i-preserved c =
+    let a = c.args in
+    let v = c.loop-i.invariant in
+    let x = c.list_swapped-k.ensures in
+    (v.0, v.1, v.2, v.3, swept_step list_of (swap_list (bytes_of a.t) (place_of a.by)) list_fits (place_fits a.by) a.m.list_count a.m.lists c.loop-i.w.lists c.loop-i.i _ c.list_swapped-k.result v.4 (omega arith) x.row x.fits)
+
+pub returns : goal.returns
+returns c =
+    let a = c.args in
+    let v = c.loop-i.invariant in
+    places_swapped (bytes_of a.t) a.by a.m c.loop-i.w c.loop-i.i v.0 v.1 v.2 (rw v.3 c.place_swapped-d.ensures) v.4 (omega arith)

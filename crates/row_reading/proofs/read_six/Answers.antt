@@ -1,0 +1,6 @@
+-- `read_six` meets its contract. Assumes nothing.
+use borrow.Author.Rules.{rules}
+use Rattle.row_reading.proofs.read_six.Goals as goal
+
+pub returns : goal.returns
+returns c = cc

@@ -1,0 +1,16 @@
+-- `clear` meets its contract. Assumes nothing.
+use Prim.Native.Nat.{ℕ, ◌-◌, ◌≤◌}
+use mathlib.Core.Path.{◌≡◌, subst}
+use mathlib.Core.Bool.{true}
+use native.Mathlib.Omega.{arith}
+use borrow.Author.Rules.{rules}
+use Rattle.rows.specs.Rows.{blank}
+use Rattle.rows.specs.Written.{Wrote}
+use Rattle.rows.proofs.Laws.Writing.{clear_none, clear-more}
+use Rattle.rows.proofs.writing.clear.Given as goal
+
+abbrev pub invariant-loop-i : goal.invariant-loop-i
+invariant-loop-i l = (l.i ≤ l.initial.s) × Wrote (λ u. blank u l.n l.i) true l.n l.i l.at l.s
+
+abbrev pub decreases-loop-i : goal.decreases-loop-i
+decreases-loop-i l = l.initial.s - l.i

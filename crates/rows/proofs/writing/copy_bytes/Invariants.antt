@@ -1,0 +1,15 @@
+-- `copy_bytes` meets its contract. Assumes nothing.
+use Prim.Native.Nat.{ℕ, ◌-◌, ◌≤◌}
+use mathlib.Core.Path.{◌≡◌, subst}
+use native.Mathlib.Omega.{arith}
+use borrow.Author.Rules.{rules}
+use lib.ListN.{length, take, drop}
+use Rattle.rows.specs.Written.{Wrote}
+use Rattle.rows.proofs.Laws.Writing.{copy_none, copied_more}
+use Rattle.rows.proofs.writing.copy_bytes.Given as goal
+
+abbrev pub invariant-loop-i : goal.invariant-loop-i
+invariant-loop-i l = (l.i ≤ l.b) × Wrote (λ u. take l.i (drop l.n u)) (take l.i l.initial.s) l.n l.i l.at l.s
+
+abbrev pub decreases-loop-i : goal.decreases-loop-i
+decreases-loop-i l = l.b - l.i

@@ -1,0 +1,16 @@
+-- `put_places` meets its contract. Assumes nothing.
+use Prim.Native.Nat.{ℕ, ◌*◌, ◌-◌, ◌≤◌}
+use mathlib.Core.Path.{◌≡◌, subst}
+use mathlib.Core.Option.{some}
+use native.Mathlib.Omega.{arith}
+use lib.ListN.{length, length-map}
+use Rattle.rows.specs.Rows.{rows_in, place_row, places_of}
+use Rattle.rows.specs.Written.{Wrote}
+use Rattle.rows.proofs.Laws.Writing.{places-none, places-more}
+use Rattle.rows.proofs.writing.put_places.Given as goal
+
+abbrev pub invariant-loop-i : goal.invariant-loop-i
+invariant-loop-i l = (l.i ≤ l.l) × Wrote (λ u. rows_in (place_row u l.n) l.i) (some (places_of l.i l.initial.s)) l.n (40 * l.i) l.at l.s
+
+abbrev pub decreases-loop-i : goal.decreases-loop-i
+decreases-loop-i l = l.l - l.i

@@ -1,0 +1,16 @@
+-- `write_component` meets its contract. Assumes nothing.
+use borrow.Author.Rules.{rules}
+use mathlib.Core.Path.{sym, ◌∙◌}
+use borrow.Author.Tests.{leb-true, leb-false}
+use Rattle.rows.proofs.Laws.Writing.{component-wrote, writes, narrow}
+use Rattle.rows.proofs.writing.write_component.Goals as goal
+
+pub put_six-requires : goal.put_six-requires
+put_six-requires c = leb-true _ _ (sym c.has_room.ensures ∙ c.if-has_room.true)
+
+pub returns-then-has_room : goal.returns-then-has_room
+returns-then-has_room c =
+    writes (leb-true _ _ (sym c.has_room.ensures ∙ c.if-has_room.true)) (component-wrote _ c.words_of-w.ensures c.put_six.ensures)
+
+pub returns-else-has_room : goal.returns-else-has_room
+returns-else-has_room c = narrow (leb-false _ _ (sym c.has_room.ensures ∙ c.if-has_room.false))

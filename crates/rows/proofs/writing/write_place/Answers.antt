@@ -1,0 +1,15 @@
+-- `write_place` meets its contract. Assumes nothing.
+use borrow.Author.Rules.{rules}
+use mathlib.Core.Path.{sym, ◌∙◌}
+use borrow.Author.Tests.{leb-true, leb-false}
+use Rattle.rows.proofs.Laws.Writing.{writes, narrow}
+use Rattle.rows.proofs.writing.write_place.Goals as goal
+
+pub put_place-requires : goal.put_place-requires
+put_place-requires c = leb-true _ _ (sym c.has_room.ensures ∙ c.if-has_room.true)
+
+pub returns-then-has_room : goal.returns-then-has_room
+returns-then-has_room c = writes (leb-true _ _ (sym c.has_room.ensures ∙ c.if-has_room.true)) c.put_place.ensures
+
+pub returns-else-has_room : goal.returns-else-has_room
+returns-else-has_room c = narrow (leb-false _ _ (sym c.has_room.ensures ∙ c.if-has_room.false))

@@ -1,0 +1,14 @@
+-- `evaluate_after` meets its contract. Assumes nothing.
+use borrow.Author.Rules.{rules}
+use mathlib.Core.Path.{sym, ◌∙◌}
+use borrow.Author.Tests.{not-true, not-false}
+use Rattle.steady.proofs.Laws.Promise.{after_none, after_list}
+use Rattle.steady.proofs.evaluate_after.Goals as goal
+
+pub returns-then-not-are_edits : goal.returns-then-not-are_edits
+returns-then-not-are_edits c =
+    after_none c.args.edits.now c.args.m c.args.target.now (record { x = c.args.x; y = c.args.y; z = c.args.z }) (sym c.are_edits.ensures ∙ not-true c.are_edits.result c.if-not-are_edits.true-raw) c.empty_tag.ensures
+
+pub returns : goal.returns
+returns c =
+    after_list c.args.edits.now (sym c.are_edits.ensures ∙ not-false c.are_edits.result c.if-not-are_edits.false-raw) c.run_list-run.ensures c.ask-e.ensures
