@@ -4,6 +4,7 @@ use native.Mathlib.Omega.{arith}
 use Rattle.float.proofs.Laws.Digit.{Digit, start, root_lt, rem_lt, step_no, step_yes, ends_up, ends_down}
 use Prim.Native.Nat.{◌-◌}
 use Rattle.float.proofs.root.digits.Goals as goal
+use Rattle.float.proofs.root.digits.Goals.{then-more-trial, else-more-trial}
 
 pub loop-i-init : goal.loop-i-init
 loop-i-init c = start c.args.a c.requires.1
@@ -35,10 +36,10 @@ overflow_add-root c = omega (arith, root_lt _ _ _ _ _ c.loop-i.invariant)
 
 pub loop-i-preserved : goal.loop-i-preserved
 loop-i-preserved c =
-    ⊎_elim
-    (λ w. rw (w.1, w.2) (step_no _ _ _ _ _ c.loop-i.invariant c.loop-i-test.true w.0.taken))
-    (λ w. rw (w.1, w.2) (step_yes _ _ _ _ _ c.loop-i.invariant c.loop-i-test.true w.0.left))
-    c.if-more-trial.branch
+    elim c.if-more-trial.branch [
+      then-more-trial w ↦ rw (w.root-is, w.rem-is) (step_no _ _ _ _ _ c.loop-i.invariant c.loop-i-test.true w.if-more-trial.true)
+    | else-more-trial w ↦ rw (w.root-is, w.rem-is) (step_yes _ _ _ _ _ c.loop-i.invariant c.loop-i-test.true w.if-more-trial.false)
+    ]
 
 pub overflow_add-result : goal.overflow_add-result
 overflow_add-result c = omega (arith, root_lt _ _ _ _ _ c.loop-i.invariant)

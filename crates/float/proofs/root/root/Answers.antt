@@ -30,7 +30,7 @@ returns-then-b-ge4503599627370496 c =
     let held : T (fits binary64 c.args.x) = subst T (sym c.well_formed.0.1) tt in
     let bits_of : of_bits binary64 (to_bits binary64 c.args.x) ≡ c.args.x = of_bits-to_bits binary64 c.args.x (held) in
     let by_pattern : (r : Float) → T (fits binary64 r) → IsRoot (of_bits binary64 (to_bits binary64 c.args.x)) r → r ≡ root_of c.args.x = λ r f R. root_only c.args.x r (held) f (subst (λ (v : Float). IsRoot v r) (bits_of) R) in
-    by_pattern c.normal.result (subst T (sym c.normal.type-inv) tt) c.normal.ensures
+    by_pattern c.normal.result (subst T (sym c.normal.type_inv) tt) c.normal.ensures
 
 pub returns-then-b-eq0 : goal.returns-then-b-eq0
 returns-then-b-eq0 c =
@@ -44,7 +44,7 @@ returns-then-b-lt9218868437227405312 c =
     let held : T (fits binary64 c.args.x) = subst T (sym c.well_formed.0.1) tt in
     let bits_of : of_bits binary64 (to_bits binary64 c.args.x) ≡ c.args.x = of_bits-to_bits binary64 c.args.x (held) in
     let by_pattern : (r : Float) → T (fits binary64 r) → IsRoot (of_bits binary64 (to_bits binary64 c.args.x)) r → r ≡ root_of c.args.x = λ r f R. root_only c.args.x r (held) f (subst (λ (v : Float). IsRoot v r) (bits_of) R) in
-    by_pattern c.beside.result (subst T (sym c.beside.type-inv) tt) c.beside.ensures
+    by_pattern c.beside.result (subst T (sym c.beside.type_inv) tt) c.beside.ensures
 
 pub returns-then-b-eq9218868437227405312 : goal.returns-then-b-eq9218868437227405312
 returns-then-b-eq9218868437227405312 c =
