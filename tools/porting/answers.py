@@ -18,6 +18,31 @@ def plain(name):
     return name.replace("-", "_")
 
 
+def unnested(text):
+    """The declarations of a module over a place of the proof, each as one that takes the place."""
+    out, lines, i = [], text.split("\n"), 0
+    while i < len(lines):
+        m = re.match(r"module _ \((\w+) : tie\.([^)]*)\) where$", lines[i])
+        if not m:
+            out.append(lines[i])
+            i += 1
+            continue
+        i += 1
+        while i < len(lines) and (not lines[i].strip() or lines[i].startswith("  ")):
+            line = lines[i][2:]
+            d = re.match(r"((?:(?:pub|abbrev|unfoldable) )*)(\S+) :(?= |$)(.*)", line)
+            if d and not line.startswith(("--", " ", "unfolding")):
+                line = f"{d[1]}{d[2]} : ({m[1]} : tie.{m[2]}) →{d[3]}"
+                name = d[2]
+            else:
+                d = re.match(r"(\S+)((?: \S+)*? =.*)", line)
+                if d and not line.startswith((" ", "--")) and d[1] == name:
+                    line = f"{d[1]} {m[1]}{d[2]}"
+            out.append(line)
+            i += 1
+    return "\n".join(out)
+
+
 class Names:
     """The places of one function, and what each old name is called now."""
 
@@ -115,6 +140,11 @@ def chunks(text):
 def sub_context(text, names, place, helpers, said, ctx="c"):
     """Turns every path that begins with a context: c, or a name that a let binds to one."""
     contexts = {ctx}
+    # a name that a let binds to the arguments: they may be called otherwise now
+    for m in re.finditer(r"let (\w+) = \w+(?:\.before)*\.args in", text):
+        for a, b in names.args:
+            if a.startswith(".args."):
+                text = re.sub(rf"(?<![^\s(){{}}\[\],;]){m[1]}{re.escape(a[5:])}(?![\w-])", m[1] + b[5:], text)
     # let a = c.before.before in / let a = c.before.args in
     for m in re.finditer(rf"let (\S+) = ({TOKEN})((?:\.before)*) in", text):
         if m[2] in contexts:
@@ -165,6 +195,8 @@ def tidied(text):
         text = text.replace(m[0], "", 1)
         text = re.sub(rf"(?<![^\s(){{}}\[\],;]){m[1]}(?=\.|\s+in\b)", "c", text)
     text = text.replace(".well-formed", ".well_formed")
+    # the length of an array that a record holds stands there as it is
+    text = re.sub(r"simp length-map at (c\.well_formed[\w.]*)", r"\1", text)
     return re.sub(r"not-(true|false) _ \(?(c\.[^\s().]+\.\1)-raw\)?", r"\2", text)
 
 
@@ -184,12 +216,13 @@ def main(argv):
             left += 1
             continue
         names, said = Names(table), []
-        head, decls = chunks(text)
+        head, decls = chunks(unnested(text))
         module = f"Rattle.{crate_name}.proofs.{path.replace('/', '.')}"
         comment = [l for l in head if l.startswith("--")]
         uses = [l for l in head if l.strip() and not l.startswith("--") and ".Tie as tie" not in l and ".Statement.{statement}" not in l]
         helpers, invariants, answers, others = {}, [], [], []
         for d in decls:
+            d["signature"] = re.sub(r" : tie\.((?:Start|At|In|After|Then|Else)[^→)]*?) → ", r" : (c : tie.\1) → ", d["signature"], count=1)
             m = re.search(r"\(\w+ : tie\.([^\s)]+)", d["signature"])
             if m and not re.search(r": tie\.Need", d["signature"]):
                 helpers[d["name"]] = m[1]
@@ -229,8 +262,7 @@ def main(argv):
                 changed = table["changed"][k]
                 lhs, _, rhs = rest.partition(" =")
                 params = lhs.split()[1:]
-                where = [(v, f"l.{v}") for v, c in zip(variables, changed) if not c]
-                where += [(v, f"l.initial.{v}") for v, c in zip(variables, changed) if c]
+                where = [(v, f"l.initial.{v}" if c else f"l.{v}") for v, c in zip(variables, changed)]
                 where += [(v, f"l.{v}") for v, c in zip(variables, changed) if c]
                 if len(where) != len(params):
                     said.append(f"{typ}: {len(params)} variables, and now {variables} {changed}")

@@ -24,5 +24,5 @@ returns-in-At c =
 
 pub returns : goal.returns
 returns c =
-    let size : length c.args.m.components ≡ 64 = simp length-map at c.well_formed.0.1.1.0.1.0.1 in
+    let size : length c.args.m.components ≡ 64 = c.well_formed.0.1.1.0.1.0.1 in
     let a = c.args in plain_more a.m a.tag.now a.c a.fits _ (sym c.is_valid.ensures ∙ c.if-not-is_valid.false c.if-tag-gt32.false _ c.tag_of-t.ensures (c.if-not-fits.false _ c.find_component-f.ensures c.in_default.is (size) c.add_more.ensures

@@ -29,11 +29,11 @@ returns-then-not-u c =
 
 pub returns-then-not-is_operation : goal.returns-then-not-is_operation
 returns-then-not-is_operation c =
-    let size : length c.args.m.components ≡ 64 = simp length-map at c.well_formed.0.1.1.0.1.0.1 in
+    let size : length c.args.m.components ≡ 64 = c.well_formed.0.1.1.0.1.0.1 in
     let a = c.args in add-plain a.m a.tag.now a.c _ (sym c.is_valid.ensures ∙ c.if-not-is_valid.false c.if-tag-gt32.false _ c.tag_of-t.ensures _ c.free_tag-u.ensures (not-false _ c.if-not-u.false) (size) (sym c.is_operation.ensures ∙ c.if-not-is_operation.true c.add_more.ensures
 
 pub returns : goal.returns
 returns c =
-    let size : length c.args.m.components ≡ 64 = simp length-map at c.well_formed.0.1.1.0.1.0.1 in
-    let lsize : length c.args.m.lists ≡ 128 = simp length-map at c.well_formed.0.1.1.1.1.0.1.0.1 in
+    let size : length c.args.m.components ≡ 64 = c.well_formed.0.1.1.0.1.0.1 in
+    let lsize : length c.args.m.lists ≡ 128 = c.well_formed.0.1.1.1.1.0.1.0.1 in
     let a = c.args in add_operation a.m a.tag.now a.c _ (sym c.is_valid.ensures ∙ c.if-not-is_valid.false c.if-tag-gt32.false _ c.tag_of-t.ensures _ c.free_tag-u.ensures (not-false _ c.if-not-u.false) (size) (sym c.is_operation.ensures ∙ c.if-not-is_operation.false (lsize) _ (subst (λ (i : ℕ). RowOf c.free_tag-u.result.tag (replicate i none) c.unassigned_row-row.result) c.input_count-k.ensures (c.unassigned_row-row.ensures (omega (arith, few_inputs a.c, c.input_count-k.ensures)))) c.add_listed.ensures

@@ -36,6 +36,6 @@ returns-then-not-inputs_fit c =
 
 pub returns : goal.returns
 returns c =
-    let size : length c.args.m.components ≡ 64 = simp length-map at c.well_formed.0.1.1.0.1.0.1 in
-    let lsize : length c.args.m.lists ≡ 128 = simp length-map at c.well_formed.0.1.1.1.1.0.1.0.1 in
+    let size : length c.args.m.components ≡ 64 = c.well_formed.0.1.1.0.1.0.1 in
+    let lsize : length c.args.m.lists ≡ 128 = c.well_formed.0.1.1.1.1.0.1.0.1 in
     let a = c.args in op_listed a.m a.tag.now a.c a.given a.n a.a.now a.b.now a.d.now _ (sym c.is_valid.ensures ∙ c.if-not-is_valid.false c.if-tag-gt32.false (sym c.if-too_long.false ∙ c.too_long.ensures) _ c.tag_of-t.ensures (sym c.is_operation.ensures ∙ c.if-not-is_operation.false _ c.find_component-f.ensures c.in_default.is ((ap (fitting a.given a.n) (sym c.input_count-k.ensures) ∙ sym c.inputs_fit.ensures) ∙ c.if-not-inputs_fit.false (size) (lsize) _ (subst (λ (i : ℕ). RowOf c.tag_of-t.result (asked a.given i a.a.now a.b.now a.d.now) c.operation_row-row.result) c.input_count-k.ensures (c.operation_row-row.ensures (omega (arith, few_inputs a.c, c.input_count-k.ensures)) (λ g. asked-short a.given a.n _ a.a.now a.b.now a.d.now (sym c.too_long.ensures ∙ c.if-too_long.false) (sym c.inputs_fit.ensures ∙ c.if-not-inputs_fit.false (omega (arith, few_inputs a.c, c.input_count-k.ensures)) g))) c.add_listed.ensures

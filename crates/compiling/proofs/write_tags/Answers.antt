@@ -28,13 +28,13 @@ bounds-at-i c =
 
 pub offset_bounds-m-x : goal.offset_bounds-m-x
 offset_bounds-m-x c =
-    let long : length c.args.m.components ≡ 64 = simp length-map at c.well_formed.0.1.1.0.1.0.1 in
+    let long : length c.args.m.components ≡ 64 = c.well_formed.0.1.1.0.1.0.1 in
     let below : (k : ℕ) → k < c.args.n → get_or c.args.g.order k 0 < 64 = λ k h. order_small c.args.m c.args.g c.args.n c.requires.0 (long) k h in
     omega (arith, below c.loop-i.i c.loop-i-test.true)
 
 pub bounds-m-x : goal.bounds-m-x
 bounds-m-x c =
-    let long : length c.args.m.components ≡ 64 = simp length-map at c.well_formed.0.1.1.0.1.0.1 in
+    let long : length c.args.m.components ≡ 64 = c.well_formed.0.1.1.0.1.0.1 in
     let below : (k : ℕ) → k < c.args.n → get_or c.args.g.order k 0 < 64 = λ k h. order_small c.args.m c.args.g c.args.n c.requires.0 (long) k h in
     below c.loop-i.i c.loop-i-test.true
 

@@ -14,7 +14,7 @@ use Rattle.compiling.proofs.Laws.Order.{order_few, order_small, tags-none, tags-
 use Rattle.compiling.proofs.write_tags.Given as goal
 
 abbrev pub invariant-loop-i : goal.invariant-loop-i
-invariant-loop-i l = (l.i ≤ l.n) × Wrote (λ u. rows_in (tag_row u) l.i) (some (rows (tag_at l.at) l.i l.initial.order)) 0 (40 * l.i) l.m l.order
+invariant-loop-i l = (l.i ≤ l.n) × Wrote (λ u. rows_in (tag_row u) l.i) (some (rows (tag_at l.m) l.i l.at)) 0 (40 * l.i) l.initial.order l.order
 
 abbrev pub decreases-loop-i : goal.decreases-loop-i
 decreases-loop-i l = l.n - l.i

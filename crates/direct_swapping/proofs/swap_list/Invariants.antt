@@ -9,7 +9,7 @@ use Rattle.direct_swapping.proofs.Laws.Swapping.{places_swapped_none, places_swa
 use Rattle.direct_swapping.proofs.swap_list.Given as goal
 
 abbrev pub invariant-loop-k : goal.invariant-loop-k
-invariant-loop-k l = (l.k ≤ l.initial.s) × PlacesSwapped l.p (place_of l.n) l.t l.k l.j l.s
+invariant-loop-k l = (l.k ≤ l.n) × PlacesSwapped l.t (place_of l.p) l.j l.k l.initial.s l.s
 
 abbrev pub decreases-loop-k : goal.decreases-loop-k
-decreases-loop-k l = l.initial.s - l.k
+decreases-loop-k l = l.n - l.k

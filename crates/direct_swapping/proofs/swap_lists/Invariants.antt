@@ -9,7 +9,7 @@ use Rattle.direct_swapping.proofs.Laws.Swapping.{rows_swapped_none, rows_swapped
 use Rattle.direct_swapping.proofs.swap_lists.Given as goal
 
 abbrev pub invariant-loop-j : goal.invariant-loop-j
-invariant-loop-j l = (l.j ≤ l.initial.s) × RowsSwapped l.p (place_of l.n) l.j l.t l.s
+invariant-loop-j l = (l.j ≤ l.n) × RowsSwapped l.t (place_of l.p) l.j l.initial.s l.s
 
 abbrev pub decreases-loop-j : goal.decreases-loop-j
-decreases-loop-j l = l.initial.s - l.j
+decreases-loop-j l = l.n - l.j

@@ -18,16 +18,16 @@ loop-i-init c =
 pub returns-then-same_tag : goal.returns-then-same_tag
 returns-then-same_tag c =
     let a = c.args in
-    let row-i = rows_next component_of a.t1 a.count c.loop-i.i no_entry (omega arith) in
-    let row-j = rows_next component_of a.t1 a.count c.loop-i.j no_entry (omega arith) in
-    apart_pair (rows component_of a.count a.t1) c.loop-i.i c.loop-i.j c.loop-i.invariant.0 _ row-i _ row-j _ c.same_tag.ensures c.if-same_tag.true
+    let row-i = rows_next component_of a.table a.count c.loop-i.i no_entry (omega arith) in
+    let row-j = rows_next component_of a.table a.count c.loop-i.j no_entry (omega arith) in
+    apart_pair (rows component_of a.count a.table) c.loop-i.i c.loop-i.j c.loop-i.invariant.0 _ row-i _ row-j _ c.same_tag.ensures c.if-same_tag.true
 
 pub loop-i-preserved-then-j-n : goal.loop-i-preserved-then-j-n
 loop-i-preserved-then-j-n c =
     let a = c.args in
-    let row-i = rows_next component_of a.t1 a.count c.loop-i.i no_entry (omega arith) in
-    let row-j = rows_next component_of a.t1 a.count c.loop-i.j no_entry (omega arith) in (
-      apart_on (rows component_of a.count a.t1) c.loop-i.i c.loop-i.j c.loop-i.invariant.0 _ row-i _ row-j _ c.same_tag.ensures c.if-same_tag.false,
+    let row-i = rows_next component_of a.table a.count c.loop-i.i no_entry (omega arith) in
+    let row-j = rows_next component_of a.table a.count c.loop-i.j no_entry (omega arith) in (
+      apart_on (rows component_of a.count a.table) c.loop-i.i c.loop-i.j c.loop-i.invariant.0 _ row-i _ row-j _ c.same_tag.ensures c.if-same_tag.false,
       omega arith,
       omega arith,
       c.loop-i.invariant.3,
@@ -37,9 +37,9 @@ loop-i-preserved-then-j-n c =
 pub loop-i-preserved : goal.loop-i-preserved
 loop-i-preserved c =
     let a = c.args in
-    (apart_next (rows component_of a.count a.t1) c.loop-i.i c.loop-i.j c.loop-i.invariant.0 (omega arith) (omega arith), omega arith, omega arith, c.loop-i.invariant.3, omega arith)
+    (apart_next (rows component_of a.count a.table) c.loop-i.i c.loop-i.j c.loop-i.invariant.0 (omega arith) (omega arith), omega arith, omega arith, c.loop-i.invariant.3, omega arith)
 
 pub returns : goal.returns
 returns c =
     let a = c.args in
-    apart_end (rows component_of a.count a.t1) c.loop-i.i c.loop-i.j c.loop-i.invariant.0 (omega arith)
+    apart_end (rows component_of a.count a.table) c.loop-i.i c.loop-i.j c.loop-i.invariant.0 (omega arith)

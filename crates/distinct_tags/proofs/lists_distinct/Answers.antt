@@ -18,16 +18,16 @@ loop-i-init c =
 pub returns-then-same_tag : goal.returns-then-same_tag
 returns-then-same_tag c =
     let a = c.args in
-    let row-i = rows_next list_of a.t1 a.count c.loop-i.i no_list (omega arith) in
-    let row-k = rows_next list_of a.t1 a.count c.loop-i.k no_list (omega arith) in
-    apart_pair (rows list_of a.count a.t1) c.loop-i.i c.loop-i.k c.loop-i.invariant.0 _ row-i _ row-k _ c.same_tag.ensures c.if-same_tag.true
+    let row-i = rows_next list_of a.table a.count c.loop-i.i no_list (omega arith) in
+    let row-k = rows_next list_of a.table a.count c.loop-i.k no_list (omega arith) in
+    apart_pair (rows list_of a.count a.table) c.loop-i.i c.loop-i.k c.loop-i.invariant.0 _ row-i _ row-k _ c.same_tag.ensures c.if-same_tag.true
 
 pub loop-i-preserved-then-k-n : goal.loop-i-preserved-then-k-n
 loop-i-preserved-then-k-n c =
     let a = c.args in
-    let row-i = rows_next list_of a.t1 a.count c.loop-i.i no_list (omega arith) in
-    let row-k = rows_next list_of a.t1 a.count c.loop-i.k no_list (omega arith) in (
-      apart_on (rows list_of a.count a.t1) c.loop-i.i c.loop-i.k c.loop-i.invariant.0 _ row-i _ row-k _ c.same_tag.ensures c.if-same_tag.false,
+    let row-i = rows_next list_of a.table a.count c.loop-i.i no_list (omega arith) in
+    let row-k = rows_next list_of a.table a.count c.loop-i.k no_list (omega arith) in (
+      apart_on (rows list_of a.count a.table) c.loop-i.i c.loop-i.k c.loop-i.invariant.0 _ row-i _ row-k _ c.same_tag.ensures c.if-same_tag.false,
       omega arith,
       omega arith,
       c.loop-i.invariant.3,
@@ -37,9 +37,9 @@ loop-i-preserved-then-k-n c =
 pub loop-i-preserved : goal.loop-i-preserved
 loop-i-preserved c =
     let a = c.args in
-    (apart_next (rows list_of a.count a.t1) c.loop-i.i c.loop-i.k c.loop-i.invariant.0 (omega arith) (omega arith), omega arith, omega arith, c.loop-i.invariant.3, omega arith)
+    (apart_next (rows list_of a.count a.table) c.loop-i.i c.loop-i.k c.loop-i.invariant.0 (omega arith) (omega arith), omega arith, omega arith, c.loop-i.invariant.3, omega arith)
 
 pub returns : goal.returns
 returns c =
     let a = c.args in
-    apart_end (rows list_of a.count a.t1) c.loop-i.i c.loop-i.k c.loop-i.invariant.0 (omega arith)
+    apart_end (rows list_of a.count a.table) c.loop-i.i c.loop-i.k c.loop-i.invariant.0 (omega arith)

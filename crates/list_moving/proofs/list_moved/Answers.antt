@@ -28,7 +28,7 @@ bounds-m-i c =
 
 pub returns-in_default-g : goal.returns-in_default-g
 returns-in_default-g c h =
-    let size : length c.args.m.lists ≡ 128 = simp length-map at c.well_formed.0.1.1.1.1.0.1.0.1 in
+    let size : length c.args.m.lists ≡ 128 = c.well_formed.0.1.1.1.1.0.1.0.1 in
     moved-free c.args.m c.args.t c.args.u h _ c.find_list-f.ensures (size) _ c.in-At.is _ c.list_under-l.ensures _ c.find_list-g.ensures c.in_default-g.is _ c.with_list.ensures
 
 pub without_list-requires : goal.without_list-requires
@@ -36,5 +36,5 @@ without_list-requires c = list_at c.args.m c.find_list-f.ensures c.in-At.is _ _ 
 
 pub returns : goal.returns
 returns c h =
-    let size : length c.args.m.lists ≡ 128 = simp length-map at c.well_formed.0.1.1.1.1.0.1.0.1 in
+    let size : length c.args.m.lists ≡ 128 = c.well_formed.0.1.1.1.1.0.1.0.1 in
     moved-over c.args.m c.args.t c.args.u h _ c.find_list-f.ensures (size) _ c.in-At.is _ c.list_under-l.ensures _ c.find_list-g.ensures _ c.in-At-g.is _ c.with_list-n.ensures _ c.without_list.ensures

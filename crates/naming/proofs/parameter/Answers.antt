@@ -2,6 +2,7 @@
 use borrow.Author.Rules.{rules}
 use Rattle.component.specs.Parameter.{name_value, name_factor, name_distance, name_thickness}
 use Rattle.naming.proofs.Arms.{plain-none}
+use borrow.Enum.Refused.{opened}
 use Rattle.naming.proofs.parameter.Goals as goal
 
 pub returns-in-Constant : goal.returns-in-Constant
@@ -30,4 +31,4 @@ unfolding name_thickness
 returns-in-Thickness c = rw c.in-Thickness.is c.only-in-Thickness.ensures
 
 pub returns-in-Multiply : goal.returns-in-Multiply
-returns-in-Multiply c = plain-none c.args.c c.args.i c.described.result c.described.ensures c.in-Multiply.keys8
+returns-in-Multiply c = plain-none c.args.c c.args.i c.described.result c.described.ensures (opened c.in-Multiply.in-Multiply-own.keys8)

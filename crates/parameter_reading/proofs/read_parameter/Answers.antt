@@ -2,6 +2,7 @@
 use borrow.Author.Rules.{rules}
 use Rattle.component.specs.Parameter.{read_parameter, name_value, name_factor, name_distance, name_thickness}
 use Rattle.parameter_reading.proofs.Arms.{plain_reading}
+use borrow.Enum.Refused.{opened}
 use Rattle.parameter_reading.proofs.read_parameter.Goals as goal
 
 pub returns-in-Constant : goal.returns-in-Constant
@@ -30,4 +31,4 @@ unfolding read_parameter name_thickness
 returns-in-Thickness c = rw c.in-Thickness.is c.read_named-in-Thickness.ensures
 
 pub returns-in-Multiply : goal.returns-in-Multiply
-returns-in-Multiply c = plain_reading c.args.c c.args.name.now c.in-Multiply.keys8
+returns-in-Multiply c = plain_reading c.args.c c.args.name.now (opened c.in-Multiply.in-Multiply-own.keys8)

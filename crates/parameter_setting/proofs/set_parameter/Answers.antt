@@ -5,7 +5,7 @@ use Rattle.parameter_setting.proofs.set_parameter.Goals as goal
 
 pub returns-in-Value : goal.returns-in-Value
 unfolding set_parameter
-returns-in-Value c = rw c.before.before.«data».given.1 c.set_value.ensures
+returns-in-Value c = rw c.in-Value.is c.set_value.ensures
 
 pub returns-in-Vec3 : goal.returns-in-Vec3
 unfolding set_parameter

@@ -2,6 +2,7 @@
 use borrow.Author.Rules.{rules}
 use Rattle.component.specs.Parameter.{set_value, name_factor, name_distance, name_thickness}
 use Rattle.parameter_setting.proofs.Arms.{plain_value}
+use borrow.Enum.Refused.{opened}
 use Rattle.parameter_setting.proofs.set_value.Goals as goal
 
 pub returns-in-Constant : goal.returns-in-Constant
@@ -30,4 +31,4 @@ unfolding set_value name_thickness
 returns-in-Thickness c = rw c.in-Thickness.is c.set_named-in-Thickness.ensures
 
 pub returns-in-Multiply : goal.returns-in-Multiply
-returns-in-Multiply c = plain_value c.args.c c.args.name.now c.args.v c.in-Multiply.keys8
+returns-in-Multiply c = plain_value c.args.c c.args.name.now c.args.v (opened c.in-Multiply.in-Multiply-own.keys8)

@@ -2,6 +2,7 @@
 use borrow.Author.Rules.{rules}
 use Rattle.component.specs.Parameter.{set_vec3, name_centre}
 use Rattle.parameter_setting.proofs.Arms.{uncentred_vec3}
+use borrow.Enum.Refused.{opened}
 use Rattle.parameter_setting.proofs.set_vec3.Goals as goal
 
 pub returns-in-Sphere : goal.returns-in-Sphere
@@ -13,4 +14,4 @@ unfolding set_vec3 name_centre
 returns-in-Torus c = rw c.in-Torus.is c.set_named-in-Torus.ensures
 
 pub returns-in_default : goal.returns-in_default
-returns-in_default c = uncentred_vec3 c.args.c c.args.name.now c.args.v c.in_default.keys3
+returns-in_default c = uncentred_vec3 c.args.c c.args.name.now c.args.v (opened c.in_default.in_default-own.keys3)

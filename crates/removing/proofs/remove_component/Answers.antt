@@ -42,6 +42,6 @@ without_entry-n-requires c =
 pub returns : goal.returns
 returns c =
     let passed : passes c.args.m ≡ true = sym c.is_valid.ensures ∙ c.if-not-is_valid.false in
-    let size : length c.args.m.components ≡ 64 = simp length-map at c.well_formed.0.1.1.0.1.0.1 in
+    let size : length c.args.m.components ≡ 64 = c.well_formed.0.1.1.0.1.0.1 in
     let a = c.args in
     remove-done a.m a.tag.now _ (passed) c.if-tag-gt32.false _ c.tag_of-t.ensures _ c.find_component-f.ensures (size) _ c.in-At.is _ _ c.without_entry-n.ensures _ c.places_swapped.ensures c.done.ensures

@@ -16,23 +16,33 @@ pub loop-i-init : goal.loop-i-init
 loop-i-init c = (omega arith, paste-zero _ 24 (padded (bytes_of c.args.t)))
 
 pub bounds-out-i : goal.bounds-out-i
-bounds-out-i c = omega (arith, long c)
+bounds-out-i c =
+    let text : List ℕ = padded (bytes_of c.args.t) in
+    let long : length c.loop-i.out ≡ length c.args.out.now = ap length c.loop-i.invariant.1
+    ∙ length-paste c.args.out.now 24 text c.loop-i.i (omega arith) (omega (arith, length-padded (bytes_of c.args.t))) in
+    omega (arith, long)
 
 pub loop-i-preserved : goal.loop-i-preserved
 loop-i-preserved c =
+    let text : List ℕ = padded (bytes_of c.args.t) in
     (
       omega arith,
       ap (λ (l : List ℕ). set l (24 + c.loop-i.i) c.byte_of.result) c.loop-i.invariant.1
-          ∙ ap (set (paste c.args.out.now 24 (text at) c.loop-i.i) (24 + c.loop-i.i)) c.byte_of.ensures
-          ∙ paste-suc c.args.out.now 24 (text at) c.loop-i.i 0 (omega arith) (omega (arith, length-padded (bytes_of c.args.t)))
-          ∙ ap (paste c.args.out.now 24 (text at)) (sym (add-one c.loop-i.i)),
+          ∙ ap (set (paste c.args.out.now 24 (text) c.loop-i.i) (24 + c.loop-i.i)) c.byte_of.ensures
+          ∙ paste-suc c.args.out.now 24 (text) c.loop-i.i 0 (omega arith) (omega (arith, length-padded (bytes_of c.args.t)))
+          ∙ ap (paste c.args.out.now 24 (text)) (sym (add-one c.loop-i.i)),
     )
 
 pub shape_of-out : goal.shape_of-out
-shape_of-out c = long c
+shape_of-out c =
+    let text : List ℕ = padded (bytes_of c.args.t) in
+    let long : length c.loop-i.out ≡ length c.args.out.now = ap length c.loop-i.invariant.1
+    ∙ length-paste c.args.out.now 24 text c.loop-i.i (omega arith) (omega (arith, length-padded (bytes_of c.args.t))) in
+    long
 
 pub returns : goal.returns
 returns c =
+    let text : List ℕ = padded (bytes_of c.args.t) in
     c.loop-i.invariant.1
-    ∙ ap (paste c.args.out.now 24 (text at)) (let z : c.loop-i.i ≡ 32 = omega arith in z)
-    ∙ pasted c.args.out.now 24 32 (text at) (length-padded (bytes_of c.args.t)) (omega arith)
+    ∙ ap (paste c.args.out.now 24 (text)) (let z : c.loop-i.i ≡ 32 = omega arith in z)
+    ∙ pasted c.args.out.now 24 32 (text) (length-padded (bytes_of c.args.t)) (omega arith)

@@ -13,7 +13,7 @@ use Rattle.report.proofs.Laws.{length-padded, pasted}
 use Rattle.report.proofs.write_padded.Given as goal
 
 abbrev pub invariant-loop-i : goal.invariant-loop-i
-invariant-loop-i l = (l.i ≤ 32) × (l.out ≡ paste l.t 24 (padded (bytes_of l.n)) l.i)
+invariant-loop-i l = (l.i ≤ 32) × (l.out ≡ paste l.initial.out 24 (padded (bytes_of l.t)) l.i)
 
 abbrev pub decreases-loop-i : goal.decreases-loop-i
 decreases-loop-i l = 32 - l.i

@@ -19,7 +19,7 @@ pub loop-i-preserved : goal.loop-i-preserved
 loop-i-preserved c =
     let a = c.args in (
       omega arith,
-      sym (every_hit (rows list_sound a.count a.t1) c.loop-i.i (rows_next list_sound a.t1 a.count c.loop-i.i _ (omega arith)) (sym c.list_sound.ensures ∙ c.if-list_sound.true)) ∙ c.loop-i.invariant.1,
+      sym (every_hit (rows list_sound a.count a.table) c.loop-i.i (rows_next list_sound a.table a.count c.loop-i.i _ (omega arith)) (sym c.list_sound.ensures ∙ c.if-list_sound.true)) ∙ c.loop-i.invariant.1,
       c.loop-i.invariant.2,
       omega arith,
     )
@@ -27,9 +27,9 @@ loop-i-preserved c =
 pub returns-else-list_sound : goal.returns-else-list_sound
 returns-else-list_sound c =
     let a = c.args in
-    sym (every_miss (rows list_sound a.count a.t1) c.loop-i.i (rows_next list_sound a.t1 a.count c.loop-i.i _ (omega arith)) (sym c.list_sound.ensures ∙ c.if-list_sound.false)) ∙ c.loop-i.invariant.1
+    sym (every_miss (rows list_sound a.count a.table) c.loop-i.i (rows_next list_sound a.table a.count c.loop-i.i _ (omega arith)) (sym c.list_sound.ensures ∙ c.if-list_sound.false)) ∙ c.loop-i.invariant.1
 
 pub returns : goal.returns
 returns c =
     let a = c.args in
-    sym (every_end (rows list_sound a.count a.t1) c.loop-i.i (omega arith)) ∙ c.loop-i.invariant.1
+    sym (every_end (rows list_sound a.count a.table) c.loop-i.i (omega arith)) ∙ c.loop-i.invariant.1

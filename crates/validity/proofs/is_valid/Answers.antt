@@ -13,22 +13,6 @@ use Rattle.sound_components.specs.Sound.{entry_sound}
 use Rattle.validity.proofs.Laws.Passes.{checks, checks_passes}
 use Rattle.validity.proofs.is_valid.Goals as goal
 
--- what is known past each test, of the model at the entry
-abbrev model : tie.Else2 → Record
-model c = c.before.before.before.before.args.m
-
-abbrev third : tie.Else3 → tie.Else2
-third c = c.before.before.before
-
-abbrev fourth : tie.Else4 → tie.Else3
-fourth c = c.before.before
-
-abbrev fifth : tie.Else5 → tie.Else4
-fifth c = c.before.before.before
-
-abbrev sixth : tie.Else6 → tie.Else5
-sixth c = c.before.before
-
 pub returns-then-m-gt64 : goal.returns-then-m-gt64
 unfolding checks
 returns-then-m-gt64 c =
@@ -44,30 +28,36 @@ returns-then-m-gt128 c =
 pub returns-then-not-lists_sound : goal.returns-then-not-lists_sound
 unfolding checks
 returns-then-not-lists_sound c =
-    let few_components : leb (model c).component_count 64 ≡ true = le-leb (model c).component_count 64 c.if-m-gt64.false in
-    let few_lists : leb (model c).list_count 128 ≡ true = le-leb (model c).list_count 128 c.if-m-gt128.false in
-    let m = model c in
+    let model : Record = c.args.m in
+    let few_components : leb (model).component_count 64 ≡ true = le-leb (model).component_count 64 c.if-m-gt64.false in
+    let few_lists : leb (model).list_count 128 ≡ true = le-leb (model).list_count 128 c.if-m-gt128.false in
+    let m = model in
     let h : every (rows list_sound m.list_count m.lists) ≡ false = sym c.lists_sound.ensures ∙ c.if-not-lists_sound.true in
     (let k : false ≡ checks m = rw (few_components, few_lists, h) in k) ∙ checks_passes m
 
 pub returns-then-not-components_sound : goal.returns-then-not-components_sound
 unfolding checks
 returns-then-not-components_sound c =
-    let few_components : leb (model c).component_count 64 ≡ true = le-leb (model c).component_count 64 c.if-m-gt64.false in
-    let few_lists : leb (model c).list_count 128 ≡ true = le-leb (model c).list_count 128 c.if-m-gt128.false in
-    let lists-sound : every (rows list_sound (model (third c)).list_count (model (third c)).lists) ≡ true = sym c.lists_sound.ensures ∙ c.if-not-lists_sound.false in
-    let m = model (third l) in
+    let model : Record = c.args.m in
+    let third : tie.Else2 = c in
+    let lists-sound : every (rows list_sound (model (third)).list_count (model (third)).lists) ≡ true = sym c.lists_sound.ensures ∙ c.if-not-lists_sound.false in
+    let few_components : leb (model).component_count 64 ≡ true = le-leb (model).component_count 64 c.if-m-gt64.false in
+    let few_lists : leb (model).list_count 128 ≡ true = le-leb (model).list_count 128 c.if-m-gt128.false in
+    let m = model (third) in
     let h : every (rows (entry_sound (lists_of m)) m.component_count m.components) ≡ false = sym c.components_sound.ensures ∙ c.if-not-components_sound.true in
-    (let k : false ≡ checks m = rw (few_components (third l), few_lists (third l), lists-sound, h) in k) ∙ checks_passes m
+    (let k : false ≡ checks m = rw (few_components (third), few_lists (third), lists-sound, h) in k) ∙ checks_passes m
 
 pub returns-then-not-components_distinct : goal.returns-then-not-components_distinct
 unfolding checks
 returns-then-not-components_distinct c =
-    let few_components : leb (model c).component_count 64 ≡ true = le-leb (model c).component_count 64 c.if-m-gt64.false in
-    let few_lists : leb (model c).list_count 128 ≡ true = le-leb (model c).list_count 128 c.if-m-gt128.false in
-    let lists-sound : every (rows list_sound (model (third c)).list_count (model (third c)).lists) ≡ true = sym c.lists_sound.ensures ∙ c.if-not-lists_sound.false in
-    let components-sound : (let m = model (third (fourth c)) in every (rows (entry_sound (lists_of m)) m.component_count m.components)) ≡ true = sym c.components_sound.ensures ∙ c.if-not-components_sound.false in
-    let l = fourth c in
+    let model : Record = c.args.m in
+    let third : tie.Else2 = c in
+    let lists-sound : every (rows list_sound (model (third)).list_count (model (third)).lists) ≡ true = sym c.lists_sound.ensures ∙ c.if-not-lists_sound.false in
+    let fourth : tie.Else3 = c in
+    let components-sound : (let m = model (third (fourth)) in every (rows (entry_sound (lists_of m)) m.component_count m.components)) ≡ true = sym c.components_sound.ensures ∙ c.if-not-components_sound.false in
+    let few_components : leb (model).component_count 64 ≡ true = le-leb (model).component_count 64 c.if-m-gt64.false in
+    let few_lists : leb (model).list_count 128 ≡ true = le-leb (model).list_count 128 c.if-m-gt128.false in
+    let l = fourth in
     let m = model (third l) in
     let h : distinct (components_of m) ≡ false = sym c.components_distinct.ensures ∙ c.if-not-components_distinct.true in
     (let k : false ≡ checks m = rw (few_components (third l), few_lists (third l), lists-sound l, components-sound, h) in k) ∙ checks_passes m
@@ -75,12 +65,16 @@ returns-then-not-components_distinct c =
 pub returns-then-not-lists_distinct : goal.returns-then-not-lists_distinct
 unfolding checks
 returns-then-not-lists_distinct c =
-    let few_components : leb (model c).component_count 64 ≡ true = le-leb (model c).component_count 64 c.if-m-gt64.false in
-    let few_lists : leb (model c).list_count 128 ≡ true = le-leb (model c).list_count 128 c.if-m-gt128.false in
-    let lists-sound : every (rows list_sound (model (third c)).list_count (model (third c)).lists) ≡ true = sym c.lists_sound.ensures ∙ c.if-not-lists_sound.false in
-    let components-sound : (let m = model (third (fourth c)) in every (rows (entry_sound (lists_of m)) m.component_count m.components)) ≡ true = sym c.components_sound.ensures ∙ c.if-not-components_sound.false in
-    let components-distinct : distinct (components_of (model (third (fourth (fifth c))))) ≡ true = sym c.components_distinct.ensures ∙ c.if-not-components_distinct.false in
-    let s = fifth c in
+    let model : Record = c.args.m in
+    let third : tie.Else2 = c in
+    let lists-sound : every (rows list_sound (model (third)).list_count (model (third)).lists) ≡ true = sym c.lists_sound.ensures ∙ c.if-not-lists_sound.false in
+    let fourth : tie.Else3 = c in
+    let components-sound : (let m = model (third (fourth)) in every (rows (entry_sound (lists_of m)) m.component_count m.components)) ≡ true = sym c.components_sound.ensures ∙ c.if-not-components_sound.false in
+    let fifth : tie.Else4 = c in
+    let components-distinct : distinct (components_of (model (third (fourth (fifth))))) ≡ true = sym c.components_distinct.ensures ∙ c.if-not-components_distinct.false in
+    let few_components : leb (model).component_count 64 ≡ true = le-leb (model).component_count 64 c.if-m-gt64.false in
+    let few_lists : leb (model).list_count 128 ≡ true = le-leb (model).list_count 128 c.if-m-gt128.false in
+    let s = fifth in
     let l = fourth s in
     let m = model (third l) in
     let h : distinct (lists_of m) ≡ false = sym c.lists_distinct.ensures ∙ c.if-not-lists_distinct.true in
@@ -89,13 +83,18 @@ returns-then-not-lists_distinct c =
 pub returns : goal.returns
 unfolding checks
 returns c =
-    let few_components : leb (model c).component_count 64 ≡ true = le-leb (model c).component_count 64 c.if-m-gt64.false in
-    let few_lists : leb (model c).list_count 128 ≡ true = le-leb (model c).list_count 128 c.if-m-gt128.false in
-    let lists-sound : every (rows list_sound (model (third c)).list_count (model (third c)).lists) ≡ true = sym c.lists_sound.ensures ∙ c.if-not-lists_sound.false in
-    let components-sound : (let m = model (third (fourth c)) in every (rows (entry_sound (lists_of m)) m.component_count m.components)) ≡ true = sym c.components_sound.ensures ∙ c.if-not-components_sound.false in
-    let components-distinct : distinct (components_of (model (third (fourth (fifth c))))) ≡ true = sym c.components_distinct.ensures ∙ c.if-not-components_distinct.false in
-    let lists-distinct : distinct (lists_of (model (third (fourth (fifth (sixth c)))))) ≡ true = sym c.lists_distinct.ensures ∙ c.if-not-lists_distinct.false in
-    let d = sixth c in
+    let model : Record = c.args.m in
+    let third : tie.Else2 = c in
+    let lists-sound : every (rows list_sound (model (third)).list_count (model (third)).lists) ≡ true = sym c.lists_sound.ensures ∙ c.if-not-lists_sound.false in
+    let fourth : tie.Else3 = c in
+    let components-sound : (let m = model (third (fourth)) in every (rows (entry_sound (lists_of m)) m.component_count m.components)) ≡ true = sym c.components_sound.ensures ∙ c.if-not-components_sound.false in
+    let fifth : tie.Else4 = c in
+    let components-distinct : distinct (components_of (model (third (fourth (fifth))))) ≡ true = sym c.components_distinct.ensures ∙ c.if-not-components_distinct.false in
+    let sixth : tie.Else5 = c in
+    let lists-distinct : distinct (lists_of (model (third (fourth (fifth (sixth)))))) ≡ true = sym c.lists_distinct.ensures ∙ c.if-not-lists_distinct.false in
+    let few_components : leb (model).component_count 64 ≡ true = le-leb (model).component_count 64 c.if-m-gt64.false in
+    let few_lists : leb (model).list_count 128 ≡ true = le-leb (model).list_count 128 c.if-m-gt128.false in
+    let d = sixth in
     let s = fifth d in
     let l = fourth s in
     let m = model (third l) in

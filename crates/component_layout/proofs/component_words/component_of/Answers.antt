@@ -10,7 +10,7 @@ use Rattle.component_layout.specs.Components.{component_of}
 use Rattle.component_layout.proofs.component_words.component_of.Goals as goal
 
 pub returns-in_default : goal.returns-in_default
-returns-in_default c = sym (component_beyond c.args.kind _ _ _ _ _ (missed 0 15 c.args.kind (omega arith) c.in_default.rest))
+returns-in_default c = sym (component_beyond c.args.kind _ _ _ _ _ (missed 0 15 c.args.kind (omega arith) c.in_default.in_default-own.rest))
 
 pub returns-in-0 : goal.returns-in-0
 unfolding component_of

@@ -21,12 +21,12 @@ returns-then-x-ge192 c =
 
 pub wires-w-requires : goal.wires-w-requires
 wires-w-requires c =
-    let longs : length c.args.m.lists ≡ 128 = simp length-map at c.well_formed.0.1.1.1.1.0.1.0.1 in
+    let longs : length c.args.m.lists ≡ 128 = c.well_formed.0.1.1.1.1.0.1.0.1 in
     owned c.args.m c.requires.0 (longs) c.resolve-found.result (c.resolve-found.ensures c.requires.0) c.at_most.result c.at_most.ensures
 
 pub returns-then-not-o : goal.returns-then-not-o
 returns-then-not-o c =
-    let longs : length c.args.m.lists ≡ 128 = simp length-map at c.well_formed.0.1.1.1.1.0.1.0.1 in
+    let longs : length c.args.m.lists ≡ 128 = c.well_formed.0.1.1.1.1.0.1.0.1 in
     let small : node_of c.args.m (bytes_of c.args.t) < 192 = subst (λ z. z < 192) (c.target_node-x.ensures c.requires.0) c.if-x-ge192.false in
     let laid : LaysOut c.wires-w.result (node_of c.args.m (bytes_of c.args.t)) c.lay_out-o.result.at c.lay_out-o.result.n c.lay_out-o.result.done c.lay_out-o.result.whole c.lay_out-o.result.seen = subst (λ z. LaysOut c.wires-w.result z c.lay_out-o.result.at c.lay_out-o.result.n c.lay_out-o.result.done c.lay_out-o.result.whole c.lay_out-o.result.seen) (c.target_node-x.ensures c.requires.0) (c.lay_out-o.ensures c.if-x-ge192.false) in
     stops c.args.m (bytes_of c.args.t) CyclicDependency c.args.t 0 c.refused-then-not-o.result c.requires.0 (says-cyclic c.args.m c.requires.0 (bytes_of c.args.t) c.requires.1 (longs) c.resolve-found.result (c.resolve-found.ensures c.requires.0) c.at_most.result c.at_most.ensures c.wires-w.result c.wires-w.ensures (small) ((laid).laid.cyclic (not-true c.lay_out-o.result.done c.if-not-o.true))) c.refused-then-not-o.ensures
@@ -38,7 +38,7 @@ placed-requires c =
 
 pub returns-then-o : goal.returns-then-o
 returns-then-o c =
-    let longs : length c.args.m.lists ≡ 128 = simp length-map at c.well_formed.0.1.1.1.1.0.1.0.1 in
+    let longs : length c.args.m.lists ≡ 128 = c.well_formed.0.1.1.1.1.0.1.0.1 in
     let small : node_of c.args.m (bytes_of c.args.t) < 192 = subst (λ z. z < 192) (c.target_node-x.ensures c.requires.0) c.if-x-ge192.false in
     let laid : LaysOut c.wires-w.result (node_of c.args.m (bytes_of c.args.t)) c.lay_out-o.result.at c.lay_out-o.result.n c.lay_out-o.result.done c.lay_out-o.result.whole c.lay_out-o.result.seen = subst (λ z. LaysOut c.wires-w.result z c.lay_out-o.result.at c.lay_out-o.result.n c.lay_out-o.result.done c.lay_out-o.result.whole c.lay_out-o.result.seen) (c.target_node-x.ensures c.requires.0) (c.lay_out-o.ensures c.if-x-ge192.false) in
     let formed : Formed no_list c.args.m (bytes_of c.args.t) c.resolve-found.result c.wires-w.result c.lay_out-o.result.at c.lay_out-o.result.n c.lay_out-o.result.whole c.lay_out-o.result.seen = record {

@@ -23,13 +23,13 @@ returns-then-same_tag c =
     let size : length c.args.table ≡ 128 = search rules in
     let answers : (f : Found) → f ≡ position (bytes_of c.args.t) 0 (rows list_of c.args.count c.args.table) → Sought (rows list_of c.args.count c.args.table) 128 (bytes_of c.args.t) f = λ f e. sought list_of c.args.table c.args.count 128 _ f (size) e in
     let a = c.args in
-    answers _ (sym (position_hit (rows list_of a.count a.t1) c.loop-i.i (rows_next list_of a.t1 a.count c.loop-i.i no_list (omega arith)) (bytes_of a.t) _ c.same_tag.ensures c.if-same_tag.true) ∙ c.loop-i.invariant.1)
+    answers _ (sym (position_hit (rows list_of a.count a.table) c.loop-i.i (rows_next list_of a.table a.count c.loop-i.i no_list (omega arith)) (bytes_of a.t) _ c.same_tag.ensures c.if-same_tag.true) ∙ c.loop-i.invariant.1)
 
 pub loop-i-preserved : goal.loop-i-preserved
 loop-i-preserved c =
     let a = c.args in (
       omega arith,
-      sym (position_miss (rows list_of a.count a.t1) c.loop-i.i (rows_next list_of a.t1 a.count c.loop-i.i no_list (omega arith)) (bytes_of a.t) _ c.same_tag.ensures c.if-same_tag.false) ∙ c.loop-i.invariant.1,
+      sym (position_miss (rows list_of a.count a.table) c.loop-i.i (rows_next list_of a.table a.count c.loop-i.i no_list (omega arith)) (bytes_of a.t) _ c.same_tag.ensures c.if-same_tag.false) ∙ c.loop-i.invariant.1,
       c.loop-i.invariant.2,
       omega arith,
     )

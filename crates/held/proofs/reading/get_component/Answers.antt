@@ -9,7 +9,7 @@ use Rattle.held.proofs.reading.get_component.Goals as goal
 pub returns-in_default : goal.returns-in_default
 returns-in_default c =
     let a = c.args in
-    component-missing a.t1 (bytes_of a.t) (sym c.find_component-f.ensures.at ∙ c.in_default.is)
+    component-missing a.m (bytes_of a.t) (sym c.find_component-f.ensures.at ∙ c.in_default.is)
 
 pub offset_bounds-m-i : goal.offset_bounds-m-i
 offset_bounds-m-i c = omega (arith, c.find_component-f.ensures.within _ c.in-At.is)
@@ -20,4 +20,4 @@ bounds-m-i c = c.find_component-f.ensures.within _ c.in-At.is
 pub returns : goal.returns
 returns c =
     let a = c.args in
-    component-held a.t1 (bytes_of a.t) _ (sym c.find_component-f.ensures.at ∙ c.in-At.is)
+    component-held a.m (bytes_of a.t) _ (sym c.find_component-f.ensures.at ∙ c.in-At.is)

@@ -51,7 +51,7 @@ loop-j-smaller c = omega (arith, c.loop-j.invariant.0, c.loop-j-test.true)
 
 pub loop-j-preserved : goal.loop-j-preserved
 loop-j-preserved c =
-    let long : length c.args.m.lists ≡ 128 = simp length-map at c.well_formed.0.1.1.1.1.0.1.0.1 in
+    let long : length c.args.m.lists ≡ 128 = c.well_formed.0.1.1.1.1.0.1.0.1 in
     (c.loop-j.invariant.0, omega (arith, c.loop-j-test.true), λ p r. subst (LeastOf (AbsentShown no_list c.args.m c.args.found.now c.args.seen.now (c.loop-j.j + 1))) (sym c.absent_turn-b.ensures) (absent_more c.args.m c.args.found.now c.args.seen.now (node-within c.args.m (standing c.args.m p)) c.loop-j.j c.loop-j.b (c.loop-j.invariant.2 p r) c.slot_at-s.result c.slot_at-s.ensures (get_or c.args.found.now c.loop-j.j 0) (r.each c.loop-j.j (omega (arith, c.loop-j.invariant.0, c.loop-j-test.true))) c.mark_of.result (c.mark_of.ensures (small c.args.m p (long) c.args.found.now r (c.loop-j.j / 4) (omega (arith, c.loop-j.invariant.0, c.loop-j-test.true))))))
 
 pub returns : goal.returns

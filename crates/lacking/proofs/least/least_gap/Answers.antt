@@ -78,7 +78,7 @@ loop-l-smaller c = omega (arith, c.loop-l.invariant.0, c.loop-l-test.true)
 
 pub loop-l-preserved : goal.loop-l-preserved
 loop-l-preserved c =
-    let long : length c.args.m.lists ≡ 128 = simp length-map at c.well_formed.0.1.1.1.1.0.1.0.1 in
+    let long : length c.args.m.lists ≡ 128 = c.well_formed.0.1.1.1.1.0.1.0.1 in
     (c.loop-l.invariant.0, omega (arith, c.loop-l-test.true), λ p r. subst (LeastOf (GapShown no_list c.args.m c.args.found.now c.args.seen.now (c.loop-l.l + 1))) (sym c.gap_turn-b.ensures) (gap_more c.args.m c.args.found.now c.args.seen.now (node-within c.args.m (standing c.args.m p)) c.loop-l.l c.loop-l.b (c.loop-l.invariant.2 p r) (places-short c.args.m p (long) c.args.found.now r c.loop-l.l (omega (arith, c.loop-l.invariant.0, c.loop-l-test.true))) (λ k h. place c.args.m p (long) c.args.found.now r c.loop-l.l k (omega (arith, c.loop-l.invariant.0, c.loop-l-test.true)) h) _ _ _ (ap (λ z. get_or c.args.found.now z 0) (omega arith)) (ap (λ z. get_or c.args.found.now z 0) (omega arith)) (ap (λ z. get_or c.args.found.now z 0) (omega arith)) c.mark_of.result (c.mark_of.ensures (small c.args.m p (long) c.args.found.now r c.loop-l.l (omega (arith, c.loop-l.invariant.0, c.loop-l-test.true))))))
 
 pub returns : goal.returns

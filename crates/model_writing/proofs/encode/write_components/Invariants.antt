@@ -13,7 +13,7 @@ use Rattle.model_writing.proofs.Laws.Writing.{entries_none, entries_more, row_fi
 use Rattle.model_writing.proofs.encode.write_components.Given as goal
 
 abbrev pub invariant-loop-i : goal.invariant-loop-i
-invariant-loop-i l = (l.i ≤ l.table) × Wrote (λ u. rows_in (entry_row u) l.i) (some (rows component_of l.i l.initial.s)) 64 (88 * l.i) l.n l.s
+invariant-loop-i l = (l.i ≤ l.n) × Wrote (λ u. rows_in (entry_row u) l.i) (some (rows component_of l.i l.table)) 64 (88 * l.i) l.initial.s l.s
 
 abbrev pub decreases-loop-i : goal.decreases-loop-i
-decreases-loop-i l = l.table - l.i
+decreases-loop-i l = l.n - l.i

@@ -13,7 +13,7 @@ use Rattle.model_writing.proofs.Laws.Writing.{lists-none, lists-more, row_fits}
 use Rattle.model_writing.proofs.encode.write_lists.Given as goal
 
 abbrev pub invariant-loop-i : goal.invariant-loop-i
-invariant-loop-i l = (l.i ≤ l.table) × Wrote (λ u. rows_in (list_row u) l.i) (some (rows list_of l.i l.initial.s)) 5696 (168 * l.i) l.n l.s
+invariant-loop-i l = (l.i ≤ l.n) × Wrote (λ u. rows_in (list_row u) l.i) (some (rows list_of l.i l.table)) 5696 (168 * l.i) l.initial.s l.s
 
 abbrev pub decreases-loop-i : goal.decreases-loop-i
-decreases-loop-i l = l.table - l.i
+decreases-loop-i l = l.n - l.i

@@ -43,7 +43,7 @@ loop-j-smaller c = omega (arith, c.loop-j.invariant.0, c.loop-j-test.true)
 
 pub loop-j-preserved : goal.loop-j-preserved
 loop-j-preserved c =
-    let long : length c.args.m.components ≡ 64 = simp length-map at c.well_formed.0.1.1.0.1.0.1 in
+    let long : length c.args.m.components ≡ 64 = c.well_formed.0.1.1.0.1.0.1 in
     (
   c.loop-j.invariant.0,
   λ p. upto_more c.args.m c.loop-j.found c.loop-j.j c.if-v-ge195.v (c.loop-j.invariant.1 p) (omega (arith, c.loop-j.invariant.0, c.loop-j-test.true))

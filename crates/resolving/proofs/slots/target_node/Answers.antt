@@ -11,5 +11,5 @@ returns-then-v-ge195 c p = c.node_of.ensures
 
 pub returns : goal.returns
 returns c p =
-    let long : length c.args.m.components ≡ 64 = simp length-map at c.well_formed.0.1.1.0.1.0.1 in
+    let long : length c.args.m.components ≡ 64 = c.well_formed.0.1.1.0.1.0.1 in
     node_fast c.args.m (standing c.args.m p) (long) c.args.t c.guess-c.result c.at_most.result c.at_most.ensures c.settle-v.result c.settle-v.ensures c.if-v-ge195.false

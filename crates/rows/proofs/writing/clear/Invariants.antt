@@ -10,7 +10,7 @@ use Rattle.rows.proofs.Laws.Writing.{clear_none, clear-more}
 use Rattle.rows.proofs.writing.clear.Given as goal
 
 abbrev pub invariant-loop-i : goal.invariant-loop-i
-invariant-loop-i l = (l.i ≤ l.initial.s) × Wrote (λ u. blank u l.n l.i) true l.n l.i l.at l.s
+invariant-loop-i l = (l.i ≤ l.n) × Wrote (λ u. blank u l.at l.i) true l.at l.i l.initial.s l.s
 
 abbrev pub decreases-loop-i : goal.decreases-loop-i
-decreases-loop-i l = l.initial.s - l.i
+decreases-loop-i l = l.n - l.i

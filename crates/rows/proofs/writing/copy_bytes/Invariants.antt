@@ -9,7 +9,7 @@ use Rattle.rows.proofs.Laws.Writing.{copy_none, copied_more}
 use Rattle.rows.proofs.writing.copy_bytes.Given as goal
 
 abbrev pub invariant-loop-i : goal.invariant-loop-i
-invariant-loop-i l = (l.i ≤ l.b) × Wrote (λ u. take l.i (drop l.n u)) (take l.i l.initial.s) l.n l.i l.at l.s
+invariant-loop-i l = (l.i ≤ l.n) × Wrote (λ u. take l.i (drop l.at u)) (take l.i l.b) l.at l.i l.initial.s l.s
 
 abbrev pub decreases-loop-i : goal.decreases-loop-i
-decreases-loop-i l = l.b - l.i
+decreases-loop-i l = l.n - l.i

@@ -29,7 +29,7 @@ put_place-requires c = omega (arith, c.loop-i.invariant.1.kept.size, c.loop-i-te
 
 pub loop-i-preserved : goal.loop-i-preserved
 loop-i-preserved c =
-    let long : length c.args.l.places ≡ 3 = simp length-map at c.well_formed.1.1.0.1.1.1.1.0.1.0.1 in
+    let long : length c.args.l.places ≡ 3 = c.well_formed.1.1.0.1.1.1.1.0.1.0.1 in
     (omega arith, places-more _ c.args.l.places (omega (arith, long, c.loop-i-test.true, c.requires.1)) c.loop-i.invariant.1 c.put_place.ensures)
 
 pub shape_of-s : goal.shape_of-s

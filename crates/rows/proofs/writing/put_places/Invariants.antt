@@ -10,7 +10,7 @@ use Rattle.rows.proofs.Laws.Writing.{places-none, places-more}
 use Rattle.rows.proofs.writing.put_places.Given as goal
 
 abbrev pub invariant-loop-i : goal.invariant-loop-i
-invariant-loop-i l = (l.i ≤ l.l) × Wrote (λ u. rows_in (place_row u l.n) l.i) (some (places_of l.i l.initial.s)) l.n (40 * l.i) l.at l.s
+invariant-loop-i l = (l.i ≤ l.n) × Wrote (λ u. rows_in (place_row u l.at) l.i) (some (places_of l.i l.l)) l.at (40 * l.i) l.initial.s l.s
 
 abbrev pub decreases-loop-i : goal.decreases-loop-i
-decreases-loop-i l = l.l - l.i
+decreases-loop-i l = l.n - l.i
