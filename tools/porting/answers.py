@@ -114,7 +114,7 @@ def chunks(text):
                 decls.append(cur)
                 cur = None
             comment.append(line)
-        elif m and not line.startswith(" ") and not re.match(r"(use|module|where|record|data)\b", line):
+        elif m and not line.startswith(" ") and not re.match(r"(use|module|where|record|data) ", line):
             if cur:
                 decls.append(cur)
             cur = {"name": m[2], "comment": comment, "lines": [line]}
@@ -197,7 +197,8 @@ def tidied(text):
     text = text.replace(".well-formed", ".well_formed")
     # the length of an array that a record holds stands there as it is
     text = re.sub(r"simp length-map at (c\.well_formed[\w.]*)", r"\1", text)
-    return re.sub(r"not-(true|false) _ \(?(c\.[^\s().]+\.\1)-raw\)?", r"\2", text)
+    text = re.sub(r"\(not-(true|false) _ (c\.[^\s().]+\.\1)-raw\)", r"\2", text)
+    return re.sub(r"not-(true|false) _ (?:\((c\.[^\s().]+\.\1)-raw\)|(c\.[^\s().]+\.\1)-raw)", r"\2\3", text)
 
 
 def main(argv):

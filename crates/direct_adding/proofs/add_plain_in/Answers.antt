@@ -21,4 +21,4 @@ returns-then-component_row_of-lt64 c =
 
 pub returns : goal.returns
 returns c =
-    let a = c.args in plain_more a.tag.now a.c a.fits (c.stands.ensures (c.if-not-stands.false) (c.if-not-fits.false c.if-tag-gt32.false _ c.tag_of-t.ensures c.component_row_of.ensures c.if-component_row_of-lt64.false c.add_more_in.ensures
+    let a = c.args in plain_more a.tag.now a.c a.fits (c.stands.ensures c.if-not-stands.false) c.if-not-fits.false c.if-tag-gt32.false _ c.tag_of-t.ensures c.component_row_of.ensures c.if-component_row_of-lt64.false c.add_more_in.ensures

@@ -20,8 +20,8 @@ returns-then-not-u c = left c.not_added-then-not-u.result c.not_added-then-not-u
 
 pub returns-then-not-is_operation : goal.returns-then-not-is_operation
 returns-then-not-is_operation c =
-    let a = c.args in component-more a.tag.now a.c (c.stands.ensures (c.if-not-stands.false) c.if-tag-gt32.false _ c.tag_of-t.ensures _ c.free_tag_in-u.ensures (not-false _ c.if-not-u.false) (sym c.is_operation.ensures ∙ c.if-not-is_operation.true c.add_more_in.ensures
+    let a = c.args in component-more a.tag.now a.c (c.stands.ensures c.if-not-stands.false) c.if-tag-gt32.false _ c.tag_of-t.ensures _ c.free_tag_in-u.ensures (not-false _ c.if-not-u.false) (sym c.is_operation.ensures ∙ c.if-not-is_operation.true) c.add_more_in.ensures
 
 pub returns : goal.returns
 returns c =
-    let a = c.args in component-listed a.tag.now a.c (c.stands.ensures (c.if-not-stands.false) c.if-tag-gt32.false _ c.tag_of-t.ensures _ c.free_tag_in-u.ensures (not-false _ c.if-not-u.false) (sym c.is_operation.ensures ∙ c.if-not-is_operation.false (unassigned a.c _ c.input_count.ensures c.unassigned_row-row.ensures) c.add_listed_in.ensures
+    let a = c.args in component-listed a.tag.now a.c (c.stands.ensures c.if-not-stands.false) c.if-tag-gt32.false _ c.tag_of-t.ensures _ c.free_tag_in-u.ensures (not-false _ c.if-not-u.false) (sym c.is_operation.ensures ∙ c.if-not-is_operation.false) (unassigned a.c _ c.input_count.ensures c.unassigned_row-row.ensures) c.add_listed_in.ensures

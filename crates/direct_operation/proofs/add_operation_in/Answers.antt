@@ -27,4 +27,4 @@ returns-then-component_row_of-lt64 c = left c.not_added-then-component_row_of-lt
 
 pub returns : goal.returns
 returns c =
-    let a = c.args in operation_listed a.tag.now a.c a.given a.n a.a.now a.b.now a.d.now (c.stands.ensures (c.if-not-stands.false) c.if-tag-gt32.false (sym c.too_long.ensures ∙ c.if-too_long.false) (sym c.is_operation.ensures ∙ c.if-not-is_operation.false (ap (fitting a.given a.n) (sym c.input_count-k.ensures) ∙ (sym c.inputs_fit.ensures ∙ c.if-not-inputs_fit.false) _ c.tag_of-t.ensures c.component_row_of.ensures c.if-component_row_of-lt64.false (asked_row a.c a.given a.n a.a.now a.b.now a.d.now _ c.input_count-k.ensures (sym c.too_long.ensures ∙ c.if-too_long.false) (sym c.inputs_fit.ensures ∙ c.if-not-inputs_fit.false c.operation_row-row.ensures) c.add_listed_in.ensures
+    let a = c.args in operation_listed a.tag.now a.c a.given a.n a.a.now a.b.now a.d.now (c.stands.ensures c.if-not-stands.false) c.if-tag-gt32.false (sym c.too_long.ensures ∙ c.if-too_long.false) (sym c.is_operation.ensures ∙ c.if-not-is_operation.false) (ap (fitting a.given a.n) (sym c.input_count-k.ensures) ∙ (sym c.inputs_fit.ensures ∙ c.if-not-inputs_fit.false)) _ c.tag_of-t.ensures c.component_row_of.ensures c.if-component_row_of-lt64.false (asked_row a.c a.given a.n a.a.now a.b.now a.d.now _ c.input_count-k.ensures (sym c.too_long.ensures ∙ c.if-too_long.false) (sym c.inputs_fit.ensures ∙ c.if-not-inputs_fit.false) c.operation_row-row.ensures) c.add_listed_in.ensures

@@ -23,17 +23,17 @@ overflow_sub-last c = omega (arith, (c.component_row_of-i.ensures.found (omega a
 
 pub move_last-requires : goal.move_last-requires
 move_last-requires c =
-    let passing : Passing c.args.s.now = c.stands.ensures (c.if-not-stands.false in
+    let passing : Passing c.args.s.now = c.stands.ensures c.if-not-stands.false in
     ((whole (passing).is).size, (omega arith, omega (arith, c.component_count-last.ensures)))
 
 pub shape_of-s-then-not-move_last : goal.shape_of-s-then-not-move_last
 shape_of-s-then-not-move_last c = c.move_last.ensures.kept.size
 
 pub returns-then-not-move_last : goal.returns-then-not-move_last
-returns-then-not-move_last c = takes_no (c.move_last.ensures.left (c.if-not-move_last.true)
+returns-then-not-move_last c = takes_no (c.move_last.ensures.left c.if-not-move_last.true)
 
 pub returns : goal.returns
 returns c =
-    let passing : Passing c.args.s.now = c.stands.ensures (c.if-not-stands.false in
+    let passing : Passing c.args.s.now = c.stands.ensures c.if-not-stands.false in
     takes_yes (remove-done _ (passing) (omega arith) c.component_row_of-i.ensures (omega arith) c.component_count-last.ensures refl
-    (c.if-not-move_last.false c.move_last.ensures c.write_number.ensures (cleared _) c.swap_places.ensures)
+    c.if-not-move_last.false c.move_last.ensures c.write_number.ensures (cleared _) c.swap_places.ensures)

@@ -25,4 +25,4 @@ returns-in_default-set c = takes_no refl
 
 pub returns : goal.returns
 returns c =
-    let a = c.args in takes_yes (parameter_set (c.stands.ensures (c.if-not-stands.false) a.tag.now a.name.now a.«data» c.component_row_of-i.result c.component_row_of-i.ensures (omega arith) c.if-tag-gt32.false c.in-Component.c c.in-Changed.k (sym (c.component_in_row-read.ensures (omega arith)) ∙ ap component_read c.in-Component.is) (sym c.set_parameter-set.ensures ∙ c.in-Changed.is) c.write_component.ensures)
+    let a = c.args in takes_yes (parameter_set (c.stands.ensures c.if-not-stands.false) a.tag.now a.name.now a.«data» c.component_row_of-i.result c.component_row_of-i.ensures (omega arith) c.if-tag-gt32.false c.in-Component.c c.in-Changed.k (sym (c.component_in_row-read.ensures (omega arith)) ∙ ap component_read c.in-Component.is) (sym c.set_parameter-set.ensures ∙ c.in-Changed.is) c.write_component.ensures)

@@ -20,7 +20,7 @@ use Rattle.tag.proofs.tag_of.Reads as tag-of-reads
 use Rattle.removing.proofs.remove_component.Goals as goal
 
 pub returns-then-not-is_valid : goal.returns-then-not-is_valid
-returns-then-not-is_valid c = meets_7 (sym c.is_valid.ensures ∙ c.if-not-is_valid.true c.refuse_plain.ensures
+returns-then-not-is_valid c = meets_7 (sym c.is_valid.ensures ∙ c.if-not-is_valid.true) c.refuse_plain.ensures
 
 pub returns-then-tag-gt32 : goal.returns-then-tag-gt32
 returns-then-tag-gt32 c =

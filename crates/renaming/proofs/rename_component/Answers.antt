@@ -19,7 +19,7 @@ use Rattle.tag.proofs.tag_of.Reads as tag-of-reads
 use Rattle.renaming.proofs.rename_component.Goals as goal
 
 pub returns-then-not-is_valid : goal.returns-then-not-is_valid
-returns-then-not-is_valid c = meets_7 (sym c.is_valid.ensures ∙ c.if-not-is_valid.true c.refuse_plain.ensures
+returns-then-not-is_valid c = meets_7 (sym c.is_valid.ensures ∙ c.if-not-is_valid.true) c.refuse_plain.ensures
 
 pub returns-then-old-gt32 : goal.returns-then-old-gt32
 returns-then-old-gt32 c =

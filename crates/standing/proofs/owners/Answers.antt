@@ -22,7 +22,7 @@ bounds-at-i c = omega (arith, c.loop-i.invariant.1.size)
 
 pub loop-i-preserved : goal.loop-i-preserved
 loop-i-preserved c =
-    (omega arith, owners_more _ _ _ (omega arith) c.loop-i.invariant.1 (omega arith) c.list_of-o.ensures (c.is_listed.ensures (c.if-not-is_listed.false))
+    (omega arith, owners_more _ _ _ (omega arith) c.loop-i.invariant.1 (omega arith) c.list_of-o.ensures (c.is_listed.ensures c.if-not-is_listed.false))
 
 pub returns : goal.returns
 returns c =

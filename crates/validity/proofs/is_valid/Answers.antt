@@ -28,74 +28,53 @@ returns-then-m-gt128 c =
 pub returns-then-not-lists_sound : goal.returns-then-not-lists_sound
 unfolding checks
 returns-then-not-lists_sound c =
-    let model : Record = c.args.m in
-    let few_components : leb (model).component_count 64 ≡ true = le-leb (model).component_count 64 c.if-m-gt64.false in
-    let few_lists : leb (model).list_count 128 ≡ true = le-leb (model).list_count 128 c.if-m-gt128.false in
-    let m = model in
+    let few_components : leb c.args.m.component_count 64 ≡ true = le-leb c.args.m.component_count 64 c.if-m-gt64.false in
+    let few_lists : leb c.args.m.list_count 128 ≡ true = le-leb c.args.m.list_count 128 c.if-m-gt128.false in
+    let m = c.args.m in
     let h : every (rows list_sound m.list_count m.lists) ≡ false = sym c.lists_sound.ensures ∙ c.if-not-lists_sound.true in
     (let k : false ≡ checks m = rw (few_components, few_lists, h) in k) ∙ checks_passes m
 
 pub returns-then-not-components_sound : goal.returns-then-not-components_sound
 unfolding checks
 returns-then-not-components_sound c =
-    let model : Record = c.args.m in
-    let third : tie.Else2 = c in
-    let lists-sound : every (rows list_sound (model (third)).list_count (model (third)).lists) ≡ true = sym c.lists_sound.ensures ∙ c.if-not-lists_sound.false in
-    let few_components : leb (model).component_count 64 ≡ true = le-leb (model).component_count 64 c.if-m-gt64.false in
-    let few_lists : leb (model).list_count 128 ≡ true = le-leb (model).list_count 128 c.if-m-gt128.false in
-    let m = model (third) in
+    let lists-sound : every (rows list_sound c.args.m.list_count c.args.m.lists) ≡ true = sym c.lists_sound.ensures ∙ c.if-not-lists_sound.false in
+    let few_components : leb c.args.m.component_count 64 ≡ true = le-leb c.args.m.component_count 64 c.if-m-gt64.false in
+    let few_lists : leb c.args.m.list_count 128 ≡ true = le-leb c.args.m.list_count 128 c.if-m-gt128.false in
+    let m = c.args.m in
     let h : every (rows (entry_sound (lists_of m)) m.component_count m.components) ≡ false = sym c.components_sound.ensures ∙ c.if-not-components_sound.true in
-    (let k : false ≡ checks m = rw (few_components (third), few_lists (third), lists-sound, h) in k) ∙ checks_passes m
+    (let k : false ≡ checks m = rw (few_components, few_lists, lists-sound, h) in k) ∙ checks_passes m
 
 pub returns-then-not-components_distinct : goal.returns-then-not-components_distinct
 unfolding checks
 returns-then-not-components_distinct c =
-    let model : Record = c.args.m in
-    let third : tie.Else2 = c in
-    let lists-sound : every (rows list_sound (model (third)).list_count (model (third)).lists) ≡ true = sym c.lists_sound.ensures ∙ c.if-not-lists_sound.false in
-    let fourth : tie.Else3 = c in
-    let components-sound : (let m = model (third (fourth)) in every (rows (entry_sound (lists_of m)) m.component_count m.components)) ≡ true = sym c.components_sound.ensures ∙ c.if-not-components_sound.false in
-    let few_components : leb (model).component_count 64 ≡ true = le-leb (model).component_count 64 c.if-m-gt64.false in
-    let few_lists : leb (model).list_count 128 ≡ true = le-leb (model).list_count 128 c.if-m-gt128.false in
-    let l = fourth in
-    let m = model (third l) in
+    let lists-sound : every (rows list_sound c.args.m.list_count c.args.m.lists) ≡ true = sym c.lists_sound.ensures ∙ c.if-not-lists_sound.false in
+    let components-sound : (let m = c.args.m in every (rows (entry_sound (lists_of m)) m.component_count m.components)) ≡ true = sym c.components_sound.ensures ∙ c.if-not-components_sound.false in
+    let few_components : leb c.args.m.component_count 64 ≡ true = le-leb c.args.m.component_count 64 c.if-m-gt64.false in
+    let few_lists : leb c.args.m.list_count 128 ≡ true = le-leb c.args.m.list_count 128 c.if-m-gt128.false in
+    let m = c.args.m in
     let h : distinct (components_of m) ≡ false = sym c.components_distinct.ensures ∙ c.if-not-components_distinct.true in
-    (let k : false ≡ checks m = rw (few_components (third l), few_lists (third l), lists-sound l, components-sound, h) in k) ∙ checks_passes m
+    (let k : false ≡ checks m = rw (few_components, few_lists, lists-sound, components-sound, h) in k) ∙ checks_passes m
 
 pub returns-then-not-lists_distinct : goal.returns-then-not-lists_distinct
 unfolding checks
 returns-then-not-lists_distinct c =
-    let model : Record = c.args.m in
-    let third : tie.Else2 = c in
-    let lists-sound : every (rows list_sound (model (third)).list_count (model (third)).lists) ≡ true = sym c.lists_sound.ensures ∙ c.if-not-lists_sound.false in
-    let fourth : tie.Else3 = c in
-    let components-sound : (let m = model (third (fourth)) in every (rows (entry_sound (lists_of m)) m.component_count m.components)) ≡ true = sym c.components_sound.ensures ∙ c.if-not-components_sound.false in
-    let fifth : tie.Else4 = c in
-    let components-distinct : distinct (components_of (model (third (fourth (fifth))))) ≡ true = sym c.components_distinct.ensures ∙ c.if-not-components_distinct.false in
-    let few_components : leb (model).component_count 64 ≡ true = le-leb (model).component_count 64 c.if-m-gt64.false in
-    let few_lists : leb (model).list_count 128 ≡ true = le-leb (model).list_count 128 c.if-m-gt128.false in
-    let s = fifth in
-    let l = fourth s in
-    let m = model (third l) in
+    let lists-sound : every (rows list_sound c.args.m.list_count c.args.m.lists) ≡ true = sym c.lists_sound.ensures ∙ c.if-not-lists_sound.false in
+    let components-sound : (let m = c.args.m in every (rows (entry_sound (lists_of m)) m.component_count m.components)) ≡ true = sym c.components_sound.ensures ∙ c.if-not-components_sound.false in
+    let components-distinct : distinct (components_of c.args.m) ≡ true = sym c.components_distinct.ensures ∙ c.if-not-components_distinct.false in
+    let few_components : leb c.args.m.component_count 64 ≡ true = le-leb c.args.m.component_count 64 c.if-m-gt64.false in
+    let few_lists : leb c.args.m.list_count 128 ≡ true = le-leb c.args.m.list_count 128 c.if-m-gt128.false in
+    let m = c.args.m in
     let h : distinct (lists_of m) ≡ false = sym c.lists_distinct.ensures ∙ c.if-not-lists_distinct.true in
-    (let k : false ≡ checks m = rw (few_components (third l), few_lists (third l), lists-sound l, components-sound s, components-distinct, h) in k) ∙ checks_passes m
+    (let k : false ≡ checks m = rw (few_components, few_lists, lists-sound, components-sound, components-distinct, h) in k) ∙ checks_passes m
 
 pub returns : goal.returns
 unfolding checks
 returns c =
-    let model : Record = c.args.m in
-    let third : tie.Else2 = c in
-    let lists-sound : every (rows list_sound (model (third)).list_count (model (third)).lists) ≡ true = sym c.lists_sound.ensures ∙ c.if-not-lists_sound.false in
-    let fourth : tie.Else3 = c in
-    let components-sound : (let m = model (third (fourth)) in every (rows (entry_sound (lists_of m)) m.component_count m.components)) ≡ true = sym c.components_sound.ensures ∙ c.if-not-components_sound.false in
-    let fifth : tie.Else4 = c in
-    let components-distinct : distinct (components_of (model (third (fourth (fifth))))) ≡ true = sym c.components_distinct.ensures ∙ c.if-not-components_distinct.false in
-    let sixth : tie.Else5 = c in
-    let lists-distinct : distinct (lists_of (model (third (fourth (fifth (sixth)))))) ≡ true = sym c.lists_distinct.ensures ∙ c.if-not-lists_distinct.false in
-    let few_components : leb (model).component_count 64 ≡ true = le-leb (model).component_count 64 c.if-m-gt64.false in
-    let few_lists : leb (model).list_count 128 ≡ true = le-leb (model).list_count 128 c.if-m-gt128.false in
-    let d = sixth in
-    let s = fifth d in
-    let l = fourth s in
-    let m = model (third l) in
-    (let k : c.default_sound.result ≡ checks m = rw (few_components (third l), few_lists (third l), lists-sound l, components-sound s, components-distinct d, lists-distinct, and-true) c.default_sound.ensures in k) ∙ checks_passes m
+    let lists-sound : every (rows list_sound c.args.m.list_count c.args.m.lists) ≡ true = sym c.lists_sound.ensures ∙ c.if-not-lists_sound.false in
+    let components-sound : (let m = c.args.m in every (rows (entry_sound (lists_of m)) m.component_count m.components)) ≡ true = sym c.components_sound.ensures ∙ c.if-not-components_sound.false in
+    let components-distinct : distinct (components_of c.args.m) ≡ true = sym c.components_distinct.ensures ∙ c.if-not-components_distinct.false in
+    let lists-distinct : distinct (lists_of c.args.m) ≡ true = sym c.lists_distinct.ensures ∙ c.if-not-lists_distinct.false in
+    let few_components : leb c.args.m.component_count 64 ≡ true = le-leb c.args.m.component_count 64 c.if-m-gt64.false in
+    let few_lists : leb c.args.m.list_count 128 ≡ true = le-leb c.args.m.list_count 128 c.if-m-gt128.false in
+    let m = c.args.m in
+    (let k : c.default_sound.result ≡ checks m = rw (few_components, few_lists, lists-sound, components-sound, components-distinct, lists-distinct, and-true) c.default_sound.ensures in k) ∙ checks_passes m

@@ -16,4 +16,4 @@ returns-then-not-is_served-2 c = no_yes
 
 pub returns : goal.returns
 returns c =
-    λ e. record { below = omega arith; first = c.is_served.ensures (c.if-not-is_served.false; second = c.is_served-2.ensures (c.if-not-is_served-2.false; third = c.is_served-3.ensures e }
+    λ e. record { below = omega arith; first = c.is_served.ensures c.if-not-is_served.false; second = c.is_served-2.ensures c.if-not-is_served-2.false; third = c.is_served-3.ensures e }

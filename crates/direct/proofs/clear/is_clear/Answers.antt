@@ -23,11 +23,11 @@ pub returns-then-not-is_ready : goal.returns-then-not-is_ready
 returns-then-not-is_ready c = no_yes
 
 pub bounds-done-x : goal.bounds-done-x
-bounds-done-x c = let r = c.is_ready.ensures (c.if-not-is_ready.false in omega (arith, r.below, c.loop-k.invariant.1.size)
+bounds-done-x c = let r = c.is_ready.ensures c.if-not-is_ready.false in omega (arith, r.below, c.loop-k.invariant.1.size)
 
 pub loop-k-preserved : goal.loop-k-preserved
 loop-k-preserved c =
-    (omega arith, closed-more c.loop-k.invariant.1 (omega arith) (c.is_ready.ensures (c.if-not-is_ready.false) c.if-x-target.false)
+    (omega arith, closed-more c.loop-k.invariant.1 (omega arith) (c.is_ready.ensures c.if-not-is_ready.false) c.if-x-target.false)
 
 pub returns : goal.returns
 returns c = λ e s g. walk_is_clear c.loop-k.invariant.1 (omega arith) (eqb-true _ 1 e) g

@@ -3,13 +3,6 @@ use borrow.Author.Rules.{rules}
 use Rattle.edit_rows.specs.EditRows.{data_at}
 use Rattle.edit_rows.proofs.edit_row.data_at.Goals as goal
 
-pub word_past-c-requires : goal.word_past-c-requires
-word_past-c-requires c =
-    search rules
-
-data-from-requires : goal.Need-data-from-requires
-data-from-requires c κs = search rules
-
 pub returns : goal.returns
 unfolding data_at
 returns c =

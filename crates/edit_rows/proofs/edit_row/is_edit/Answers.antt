@@ -49,4 +49,4 @@ returns-in-9 c =
 
 pub returns-in_default : goal.returns-in_default
 returns-in_default c =
-    sym (ap is_some (edit_beyond _ _ c.read_word-which.result (sym c.texts_fit.ensures ∙ not-false c.texts_fit.result c.if-not-texts_fit.false-raw) (sym c.read_word-which.ensures) (λ h. missed 1 9 c.read_word-which.result h c.in_default.rest)))
+    sym (ap is_some (edit_beyond _ _ c.read_word-which.result (sym c.texts_fit.ensures ∙ not-false c.texts_fit.result c.if-not-texts_fit.false-raw) (sym c.read_word-which.ensures) (λ h. missed 1 9 c.read_word-which.result h c.in_default.in_default-own.rest)))

@@ -10,7 +10,7 @@ use Rattle.model_bytes.proofs.Laws.Decoding.{head, none-headed, none-default, no
 use Rattle.model_bytes.proofs.decode.decode.Goals as goal
 
 pub returns-then-not-is_headed : goal.returns-then-not-is_headed
-returns-then-not-is_headed c = decodes_none _ _ c.no_model.ensures (none-headed _ (sym c.is_headed.ensures ∙ c.if-not-is_headed.true)
+returns-then-not-is_headed c = decodes_none _ _ c.no_model.ensures (none-headed _ (sym c.is_headed.ensures ∙ c.if-not-is_headed.true))
 
 pub read_place-default-requires : goal.read_place-default-requires
 read_place-default-requires c =

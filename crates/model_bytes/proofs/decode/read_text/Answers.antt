@@ -14,8 +14,8 @@ returns-then-n-gt32 c = read_none (text-long _ _ _ (omega arith)) c.no_tag.ensur
 
 pub returns-then-not-is_blank : goal.returns-then-not-is_blank
 returns-then-not-is_blank c =
-    read_none (text_dirty c.args.n _ _ (omega arith) (blank_as c.args.s.now (c.args.at + c.args.n) (c.args.at + 32) (32 - c.args.n) c.is_blank.ensures (omega arith) ∙ c.if-not-is_blank.true) c.no_tag-then-not-is_blank.ensures
+    read_none (text_dirty c.args.n _ _ (omega arith) (blank_as c.args.s.now (c.args.at + c.args.n) (c.args.at + 32) (32 - c.args.n) c.is_blank.ensures (omega arith) ∙ c.if-not-is_blank.true)) c.no_tag-then-not-is_blank.ensures
 
 pub returns : goal.returns
 returns c =
-    text-read c.args.n _ _ (omega arith) (blank_as c.args.s.now (c.args.at + c.args.n) (c.args.at + 32) (32 - c.args.n) c.is_blank.ensures (omega arith) ∙ c.if-not-is_blank.false c.copy_32-bytes.ensures
+    text-read c.args.n _ _ (omega arith) (blank_as c.args.s.now (c.args.at + c.args.n) (c.args.at + 32) (32 - c.args.n) c.is_blank.ensures (omega arith) ∙ c.if-not-is_blank.false) c.copy_32-bytes.ensures

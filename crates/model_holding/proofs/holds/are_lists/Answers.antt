@@ -17,7 +17,7 @@ pub returns-then-not-is_list : goal.returns-then-not-is_list
 returns-then-not-is_list c = not_held
 
 pub loop-i-preserved : goal.loop-i-preserved
-loop-i-preserved c = (omega arith, more-held _ _ c.loop-i.invariant.1 (c.is_list.ensures (c.if-not-is_list.false))
+loop-i-preserved c = (omega arith, more-held _ _ c.loop-i.invariant.1 (c.is_list.ensures c.if-not-is_list.false))
 
 pub returns : goal.returns
 returns c = λ e. all_held _ c.loop-i.invariant.1 (let z : c.loop-i.i ≡ c.args.n = omega arith in z)

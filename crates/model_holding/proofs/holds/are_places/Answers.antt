@@ -16,7 +16,7 @@ pub returns-then-not-is_place : goal.returns-then-not-is_place
 returns-then-not-is_place c = not_held
 
 pub loop-i-preserved : goal.loop-i-preserved
-loop-i-preserved c = (omega arith, more-held _ _ c.loop-i.invariant.1 (c.is_place.ensures (c.if-not-is_place.false))
+loop-i-preserved c = (omega arith, more-held _ _ c.loop-i.invariant.1 (c.is_place.ensures c.if-not-is_place.false))
 
 pub returns : goal.returns
 returns c = λ e. all_held _ c.loop-i.invariant.1 (let z : c.loop-i.i ≡ c.args.n = omega arith in z)

@@ -14,4 +14,4 @@ returns-in_default c = not_held
 
 pub returns : goal.returns
 returns c =
-    λ e. entry-held _ _ (c.is_tag.ensures (c.if-not-is_tag.false) c.in-Component._c (sym c.read_component-read.ensures ∙ ap component_read c.in-Component.is)
+    λ e. entry-held _ _ (c.is_tag.ensures c.if-not-is_tag.false) c.in-Component._c (sym c.read_component-read.ensures ∙ ap component_read c.in-Component.is)

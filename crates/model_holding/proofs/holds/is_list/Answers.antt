@@ -16,4 +16,4 @@ returns-then-not-is_blank c = not_held
 
 pub returns : goal.returns
 returns c =
-    λ e. list-checked _ _ c.read_word-n.ensures (omega arith) (c.is_tag.ensures (c.if-not-is_tag.false) c.is_blank.ensures (c.if-not-is_blank.false (c.are_places.ensures e)
+    λ e. list-checked _ _ c.read_word-n.ensures (omega arith) (c.is_tag.ensures c.if-not-is_tag.false) c.is_blank.ensures c.if-not-is_blank.false (c.are_places.ensures e)
