@@ -10,6 +10,7 @@ use Rattle.model.specs.View.{passes}
 use Rattle.held.proofs.Laws.Standing.{standing}
 use Rattle.resolving.proofs.Laws.Slots.{Upto, upto_start, upto_more, upto_end, settle_fast, settle_slow}
 use Rattle.resolving.proofs.slots.resolve.Goals as goal
+use Rattle.resolving.proofs.slots.resolve.Goals.{then-v-ge195, else-v-ge195}
 
 pub overflow_mul-n : goal.overflow_mul-n
 overflow_mul-n c = omega (arith, c.at_most-n.ensures)
@@ -47,7 +48,10 @@ loop-j-preserved c =
     (
   c.loop-j.invariant.0,
   λ p. upto_more c.args.m c.loop-j.found c.loop-j.j c.if-v-ge195.v (c.loop-j.invariant.1 p) (omega (arith, c.loop-j.invariant.0, c.loop-j-test.true))
-      (⊎_elim (λ y. y.2 ∙ settle_slow c.args.m (standing c.args.m p) (long) _ (c.loop-j.j % 4) c.slot_at-s.result c.slot_at-s.ensures c.guess-c.result c.at_most-held.result c.at_most-held.ensures c.settle-v.result c.settle-v.ensures y.0.taken _ y.1.ensures) (λ y. y.1 ∙ settle_fast c.args.m (standing c.args.m p) (long) _ (c.loop-j.j % 4) c.slot_at-s.result c.slot_at-s.ensures c.guess-c.result c.at_most-held.result c.at_most-held.ensures c.settle-v.result c.settle-v.ensures y.0.left) c.if-v-ge195.branch),
+      (elim c.if-v-ge195.branch [
+        then-v-ge195 y ↦ y.v-is ∙ settle_slow c.args.m (standing c.args.m p) (long) _ (c.loop-j.j % 4) c.slot_at-s.result c.slot_at-s.ensures c.guess-c.result c.at_most-held.result c.at_most-held.ensures c.settle-v.result c.settle-v.ensures y.if-v-ge195.true _ y.node_of-v.ensures
+      | else-v-ge195 y ↦ y.v-is ∙ settle_fast c.args.m (standing c.args.m p) (long) _ (c.loop-j.j % 4) c.slot_at-s.result c.slot_at-s.ensures c.guess-c.result c.at_most-held.result c.at_most-held.ensures c.settle-v.result c.settle-v.ensures y.if-v-ge195.false
+      ]),
 )
 
 pub returns : goal.returns
