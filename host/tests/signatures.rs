@@ -1,10 +1,29 @@
-//! The calls in Rattle, in the C header and in ffi.rs take the same arguments: no compiler sees more than one of the three.
+//! The calls in Rattle, in the C header and in ffi.rs take the same arguments: no compiler sees more than one of the three. And
+//! what crate dotterelwire exports says what the functions say that it calls.
 use std::collections::BTreeMap;
 use std::fs;
 use std::path::{Path, PathBuf};
 
 /// What each call takes, by its name.
 type Signatures = BTreeMap<String, Vec<&'static str>>;
+
+/// What stands ahead of the name of a call that is exported.
+const EXPORTED: &str = "pub extern \"C\" fn ";
+
+/// The crates whose functions are exported.
+const CRATES: [&str; 11] = [
+    "adding_operation_calls",
+    "adding_calls",
+    "calls",
+    "wiring_calls",
+    "edit_lists",
+    "asking",
+    "compiling",
+    "checking",
+    "showing",
+    "showing_parameters",
+    "boundary",
+];
 
 fn root() -> PathBuf {
     Path::new(env!("CARGO_MANIFEST_DIR")).join("..")
@@ -54,24 +73,14 @@ fn in_rust(argument: &str) -> Option<&'static str> {
     }
 }
 
-fn of_the_crates() -> Signatures {
-    let sources = [
-        "adding_operation_calls",
-        "adding_calls",
-        "calls",
-        "wiring_calls",
-        "edit_lists",
-        "asking",
-        "compiling",
-        "checking",
-        "showing",
-        "showing_parameters",
-        "boundary",
-    ]
-    .map(|name| root().join("crates").join(name).join("src"));
-    let files = sources.iter().flat_map(|folder| fs::read_dir(folder).unwrap());
-    let texts = files.map(|file| fs::read_to_string(file.unwrap().path()).unwrap());
-    texts.flat_map(|text| signatures(&text, "pub extern \"C\" fn ", in_rattle)).collect()
+/// The texts of a crate in Rattle.
+fn texts(name: &str) -> Vec<String> {
+    let files = fs::read_dir(root().join("crates").join(name).join("src")).unwrap();
+    files.map(|file| fs::read_to_string(file.unwrap().path()).unwrap()).collect()
+}
+
+fn of_the_crate() -> Signatures {
+    texts("dotterelwire").iter().flat_map(|text| signatures(text, EXPORTED, in_rattle)).collect()
 }
 
 fn of_the_header() -> Signatures {
@@ -88,10 +97,33 @@ fn of_ffi() -> Signatures {
     found
 }
 
+/// Each call of a text with its arguments and clauses, by its name, in whatever layout.
+fn promises(text: &str, behind: &str) -> BTreeMap<String, String> {
+    let starts = text.match_indices(behind).map(|(at, _)| &text[at + behind.len()..]);
+    let called = starts.filter(|rest| rest.starts_with("dw_")).filter_map(|rest| {
+        let (name, rest) = rest.split_once('(')?;
+        let (promise, _) = rest.split_once("\n{\n")?;
+        let words: Vec<&str> = promise.split_whitespace().collect();
+        Some((name.to_string(), words.join(" ").replace("( ", "(").replace(", )", ")")))
+    });
+    called.collect()
+}
+
 #[test]
 fn the_same_arguments_everywhere() {
-    let crates = of_the_crates();
-    assert_eq!(crates.len(), 25);
-    assert_eq!(of_the_header(), crates);
-    assert_eq!(of_ffi(), crates);
+    let exported = of_the_crate();
+    assert_eq!(exported.len(), 25);
+    assert_eq!(of_the_header(), exported);
+    assert_eq!(of_ffi(), exported);
+}
+
+#[test]
+fn an_export_has_the_clauses_of_its_function() {
+    let of = |names: &[&str], behind: &str| -> BTreeMap<String, String> {
+        names.iter().flat_map(|name| texts(name)).flat_map(|text| promises(&text, behind)).collect()
+    };
+    let functions = of(&CRATES, "pub fn ");
+    assert_eq!(functions.len(), 25);
+    assert!(functions.values().all(|promise| promise.contains("ensures {")));
+    assert_eq!(of(&["dotterelwire"], EXPORTED), functions);
 }

@@ -1,7 +1,7 @@
 #!/usr/bin/env python3
 """Writes the generated proofs of crate lent: proofs/Walk/*.antt of walk.txt, and proofs/EDIT/Proof.antt of proof.txt.
 
-Run from the repository's root, then `rt fmt` and `rt check lent`. README.md says what is generated, and why."""
+Run from the repository's root, then `rt fmt` and `rt check` in crates/lent. README.md says what is generated, and why."""
 import os
 import re
 

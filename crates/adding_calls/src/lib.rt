@@ -11,8 +11,7 @@ use float::bits::float_of;
 use storing::store::tell_made;
 use word_edits::function_of;
 
-#[unsafe(no_mangle)]
-pub extern "C" fn dw_add_constant(model: &mut [u8], tag: &[u8], value: u64, out: &mut [u8]) -> u32
+pub fn dw_add_constant(model: &mut [u8], tag: &[u8], value: u64, out: &mut [u8]) -> u32
     ensures { Called (add_constant tag.now (number value)) model.old model.new out.old out.new result }
 {
     let added = add_constant_in(model, tag, float_of(value));
@@ -23,8 +22,7 @@ pub extern "C" fn dw_add_constant(model: &mut [u8], tag: &[u8], value: u64, out:
     decoded_adding::add_constant(model, tag, value, out)
 }
 
-#[unsafe(no_mangle)]
-pub extern "C" fn dw_add_function(
+pub fn dw_add_function(
     model: &mut [u8],
     tag: &[u8],
     kind: u64,

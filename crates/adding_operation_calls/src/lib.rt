@@ -10,8 +10,7 @@ use direct_words::{add_component_in_of, add_operation_in_with};
 use storing::store::tell_made;
 use word_edits::operation_of;
 
-#[unsafe(no_mangle)]
-pub extern "C" fn dw_add_operation(
+pub fn dw_add_operation(
     model: &mut [u8],
     tag: &[u8],
     kind: u64,
@@ -39,8 +38,7 @@ pub extern "C" fn dw_add_operation(
     )
 }
 
-#[unsafe(no_mangle)]
-pub extern "C" fn dw_add_component(
+pub fn dw_add_component(
     model: &mut [u8],
     tag: &[u8],
     kind: u64,

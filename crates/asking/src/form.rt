@@ -57,15 +57,7 @@ fn evaluate(model: &[u8], target: &[u8], x: f64, y: f64, z: f64, out: &mut [u8])
 }
 
 // The number of the target's form at a point, or a refusal.
-#[unsafe(no_mangle)]
-pub extern "C" fn dw_evaluate_at(
-    model: &[u8],
-    target: &[u8],
-    x: u64,
-    y: u64,
-    z: u64,
-    out: &mut [u8],
-) -> u32
+pub fn dw_evaluate_at(model: &[u8], target: &[u8], x: u64, y: u64, z: u64, out: &mut [u8]) -> u32
     ensures { Evaluates model.now target.now (point_of (number x) (number y) (number z)) out.old out.new result }
 {
     evaluate(model, target, float_of(x), float_of(y), float_of(z), out)

@@ -7,15 +7,13 @@ use geometry::vec3f::Vec3;
 use shapes::sphere::Sphere;
 use shapes::torus::Torus;
 
-#[unsafe(no_mangle)]
-pub extern "C" fn dw_root(x: f64) -> f64
+pub fn dw_root(x: f64) -> f64
     ensures { result ≡ root_of x }
 {
     float::root::root(x)
 }
 
-#[unsafe(no_mangle)]
-pub extern "C" fn dw_sphere(cx: f64, cy: f64, cz: f64, radius: f64, x: f64, y: f64, z: f64) -> f64
+pub fn dw_sphere(cx: f64, cy: f64, cz: f64, radius: f64, x: f64, y: f64, z: f64) -> f64
     ensures { result ≡ to_sphere (record { centre = record { x = cx; y = cy; z = cz }; radius = radius }) x y z }
 {
     let s = Sphere {
@@ -29,8 +27,7 @@ pub extern "C" fn dw_sphere(cx: f64, cy: f64, cz: f64, radius: f64, x: f64, y: f
     s.eval(x, y, z)
 }
 
-#[unsafe(no_mangle)]
-pub extern "C" fn dw_torus(cx: f64, cy: f64, cz: f64, r: f64, t: f64, x: f64, y: f64, z: f64) -> f64
+pub fn dw_torus(cx: f64, cy: f64, cz: f64, r: f64, t: f64, x: f64, y: f64, z: f64) -> f64
     ensures { result ≡ to_torus (record { centre = record { x = cx; y = cy; z = cz }; r = r; t = t }) x y z }
 {
     let s = Torus {

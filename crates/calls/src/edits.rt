@@ -9,8 +9,7 @@ use direct_setting::set_parameter_in;
 use storing::store::{tell_done, tell_made};
 use word_edits::data_of;
 
-#[unsafe(no_mangle)]
-pub extern "C" fn dw_remove_component(model: &mut [u8], tag: &[u8], out: &mut [u8]) -> u32
+pub fn dw_remove_component(model: &mut [u8], tag: &[u8], out: &mut [u8]) -> u32
     ensures { Called (remove_component tag.now) model.old model.new out.old out.new result }
 {
     if remove_component_in(model, tag) {
@@ -19,13 +18,7 @@ pub extern "C" fn dw_remove_component(model: &mut [u8], tag: &[u8], out: &mut [u
     decoded::remove_component(model, tag, out)
 }
 
-#[unsafe(no_mangle)]
-pub extern "C" fn dw_rename_component(
-    model: &mut [u8],
-    old: &[u8],
-    new: &[u8],
-    out: &mut [u8],
-) -> u32
+pub fn dw_rename_component(model: &mut [u8], old: &[u8], new: &[u8], out: &mut [u8]) -> u32
     ensures { Called (rename_component old.now new.now) model.old model.new out.old out.new result }
 {
     let renamed = rename_component_in(model, old, new);
@@ -36,8 +29,7 @@ pub extern "C" fn dw_rename_component(
     decoded::rename_component(model, old, new, out)
 }
 
-#[unsafe(no_mangle)]
-pub extern "C" fn dw_set_parameter(
+pub fn dw_set_parameter(
     model: &mut [u8],
     tag: &[u8],
     name: &[u8],

@@ -7,8 +7,7 @@ ghost use Rattle.checking.specs.Check.{checked};
 use opened::{opened, say_code};
 
 // Whether the bytes hold a model that 7 lets pass.
-#[unsafe(no_mangle)]
-pub extern "C" fn dw_check(model: &[u8], out: &mut [u8]) -> u32
+pub fn dw_check(model: &[u8], out: &mut [u8]) -> u32
     ensures { Says (checked (held_in model.now)) out.old out.new result }
 {
     let d = opened(model);

@@ -54,8 +54,7 @@ fn write_order(m: Model, g: CompiledGraph, n: usize, order: &mut [u8])
 }
 
 // The order in which the target's components are computed, as tags, or a refusal.
-#[unsafe(no_mangle)]
-pub extern "C" fn dw_compile(model: &[u8], target: &[u8], order: &mut [u8], out: &mut [u8]) -> u32
+pub fn dw_compile(model: &[u8], target: &[u8], order: &mut [u8], out: &mut [u8]) -> u32
     ensures { Compiles model.now target.now order.old order.new out.old out.new result }
 {
     let d = decode(model);

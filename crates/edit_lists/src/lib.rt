@@ -12,8 +12,7 @@ use steady::evaluate_after;
 use storing::store::{put_model, tell_7, tell_done, tell_reply};
 
 // Writes a new model; a slice of another length is 7 and is left alone.
-#[unsafe(no_mangle)]
-pub extern "C" fn dw_new(model: &mut [u8], out: &mut [u8]) -> u32
+pub fn dw_new(model: &mut [u8], out: &mut [u8]) -> u32
     ensures { Begun model.old model.new out.old out.new result }
 {
     if model.len() != 27200 {
@@ -25,8 +24,7 @@ pub extern "C" fn dw_new(model: &mut [u8], out: &mut [u8]) -> u32
 }
 
 // The list run on a copy, and the form asked after it; the model after the list is stored only where the asking was answered.
-#[unsafe(no_mangle)]
-pub extern "C" fn dw_evaluate_after(
+pub fn dw_evaluate_after(
     model: &mut [u8],
     edits: &[u8],
     target: &[u8],

@@ -11,8 +11,7 @@ use rows::writing::{write_component, write_places};
 use tag::tag_of;
 
 // The default.
-#[unsafe(no_mangle)]
-pub extern "C" fn dw_default(model: &[u8], out: &mut [u8]) -> u32
+pub fn dw_default(model: &[u8], out: &mut [u8]) -> u32
     ensures { Says (of_default (held_in model.now)) out.old out.new result }
 {
     let d = opened(model);
@@ -29,13 +28,7 @@ pub extern "C" fn dw_default(model: &[u8], out: &mut [u8]) -> u32
 }
 
 // The component at a position of the table.
-#[unsafe(no_mangle)]
-pub extern "C" fn dw_component_at(
-    model: &[u8],
-    position: u64,
-    words: &mut [u8],
-    out: &mut [u8],
-) -> u32
+pub fn dw_component_at(model: &[u8], position: u64, words: &mut [u8], out: &mut [u8]) -> u32
     ensures { ShowsComponent (component_at model.now position) words.old words.new out.old out.new result }
 {
     let d = opened(model);
@@ -55,13 +48,7 @@ pub extern "C" fn dw_component_at(
 }
 
 // The component with that tag.
-#[unsafe(no_mangle)]
-pub extern "C" fn dw_get_component(
-    model: &[u8],
-    tag: &[u8],
-    words: &mut [u8],
-    out: &mut [u8],
-) -> u32
+pub fn dw_get_component(model: &[u8], tag: &[u8], words: &mut [u8], out: &mut [u8]) -> u32
     ensures { ShowsComponent (component_under model.now tag.now) words.old words.new out.old out.new result }
 {
     let d = opened(model);
@@ -82,8 +69,7 @@ pub extern "C" fn dw_get_component(
 }
 
 // The input list at a position of the table.
-#[unsafe(no_mangle)]
-pub extern "C" fn dw_list_at(model: &[u8], position: u64, places: &mut [u8], out: &mut [u8]) -> u32
+pub fn dw_list_at(model: &[u8], position: u64, places: &mut [u8], out: &mut [u8]) -> u32
     ensures { ShowsList (list_place_at model.now position) places.old places.new out.old out.new result }
 {
     let d = opened(model);
@@ -102,8 +88,7 @@ pub extern "C" fn dw_list_at(model: &[u8], position: u64, places: &mut [u8], out
 }
 
 // The input list with that tag, whether the tag has a component or not.
-#[unsafe(no_mangle)]
-pub extern "C" fn dw_get_inputs(model: &[u8], tag: &[u8], places: &mut [u8], out: &mut [u8]) -> u32
+pub fn dw_get_inputs(model: &[u8], tag: &[u8], places: &mut [u8], out: &mut [u8]) -> u32
     ensures { ShowsList (list_under model.now tag.now) places.old places.new out.old out.new result }
 {
     let d = opened(model);

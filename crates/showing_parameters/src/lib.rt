@@ -38,8 +38,7 @@ fn say_data(r: Reading, words: &mut [u8], out: &mut [u8]) -> u32
 }
 
 // The parameter of a component.
-#[unsafe(no_mangle)]
-pub extern "C" fn dw_read_parameter(
+pub fn dw_read_parameter(
     model: &[u8],
     tag: &[u8],
     name: &[u8],
@@ -66,8 +65,7 @@ pub extern "C" fn dw_read_parameter(
 }
 
 // The name of a kind, and its count of inputs and 1.
-#[unsafe(no_mangle)]
-pub extern "C" fn dw_type_name(kind: u64, out: &mut [u8]) -> u32
+pub fn dw_type_name(kind: u64, out: &mut [u8]) -> u32
     ensures { Says (of_kind (kind_of kind)) out.old out.new result }
 {
     let read = component_from(kind, 0, 0, 0, 0, 0);
@@ -89,8 +87,7 @@ fn type_number(d: DataType) -> u64
 }
 
 // The parameter of a kind at a place, and what it takes: 1 a value, 2 a vec3, 0 where there is none.
-#[unsafe(no_mangle)]
-pub extern "C" fn dw_parameter(kind: u64, index: u64, out: &mut [u8]) -> u32
+pub fn dw_parameter(kind: u64, index: u64, out: &mut [u8]) -> u32
     ensures { Says (of_parameter (kind_of kind) index) out.old out.new result }
 {
     let read = component_from(kind, 0, 0, 0, 0, 0);

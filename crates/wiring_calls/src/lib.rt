@@ -7,8 +7,7 @@ ghost use Rattle.storing.specs.Called.{Called};
 use direct_wiring::{add_input_in, remove_input_in};
 use storing::store::tell_done;
 
-#[unsafe(no_mangle)]
-pub extern "C" fn dw_add_input(
+pub fn dw_add_input(
     model: &mut [u8],
     target: &[u8],
     source: &[u8],
@@ -23,8 +22,7 @@ pub extern "C" fn dw_add_input(
     decoded::add_input(model, target, source, index, out)
 }
 
-#[unsafe(no_mangle)]
-pub extern "C" fn dw_remove_input(model: &mut [u8], tag: &[u8], index: u64, out: &mut [u8]) -> u32
+pub fn dw_remove_input(model: &mut [u8], tag: &[u8], index: u64, out: &mut [u8]) -> u32
     ensures { Called (remove_input tag.now index) model.old model.new out.old out.new result }
 {
     if remove_input_in(model, tag, index as usize) {

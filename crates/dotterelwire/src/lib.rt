@@ -1,0 +1,10 @@
+// The static library that a host links (docs/ABI.md): each function of the crates that answer a host, under its C name and with its clauses again.
+#![tactic(auto)]
+
+mod additions;
+mod changes;
+mod lists;
+mod numbers;
+mod parameters;
+mod questions;
+mod tables;

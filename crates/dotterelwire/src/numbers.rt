@@ -1,0 +1,25 @@
+// The root and the two distances, for a host that checks or measures them. They touch no model.
+ghost use Rattle.std.specs.Prelude.{◌≡◌};
+ghost use Rattle.float.specs.RootOf.{root_of};
+ghost use Rattle.shapes.specs.Distance.{to_sphere, to_torus};
+
+#[unsafe(no_mangle)]
+pub extern "C" fn dw_root(x: f64) -> f64
+    ensures { result ≡ root_of x }
+{
+    boundary::numbers::dw_root(x)
+}
+
+#[unsafe(no_mangle)]
+pub extern "C" fn dw_sphere(cx: f64, cy: f64, cz: f64, radius: f64, x: f64, y: f64, z: f64) -> f64
+    ensures { result ≡ to_sphere (record { centre = record { x = cx; y = cy; z = cz }; radius = radius }) x y z }
+{
+    boundary::numbers::dw_sphere(cx, cy, cz, radius, x, y, z)
+}
+
+#[unsafe(no_mangle)]
+pub extern "C" fn dw_torus(cx: f64, cy: f64, cz: f64, r: f64, t: f64, x: f64, y: f64, z: f64) -> f64
+    ensures { result ≡ to_torus (record { centre = record { x = cx; y = cy; z = cz }; r = r; t = t }) x y z }
+{
+    boundary::numbers::dw_torus(cx, cy, cz, r, t, x, y, z)
+}
