@@ -1,5 +1,4 @@
 -- `adding::add_constant` meets its contract. Assumes nothing.
-use borrow.Author.Rules.{rules}
 use Rattle.adding.proofs.Laws.Plain.{constant_is}
 use Rattle.adding.proofs.add_constant.Goals as goal
 

@@ -1,5 +1,4 @@
 -- `adding::add_function` meets its contract. Assumes nothing.
-use borrow.Author.Rules.{rules}
 use Rattle.adding.proofs.Laws.Plain.{function_is}
 use Rattle.adding.proofs.add_function.Goals as goal
 

@@ -1,8 +1,6 @@
 -- `adding::add_plain` meets its contract. Assumes nothing.
-use borrow.Author.Rules.{rules}
 use mathlib.Core.Path.{◌≡◌, sym, ◌∙◌}
-use lib.ListN.{length, length-map}
-use borrow.Author.Tests.{not-true, not-false}
+use lib.ListN.{length}
 use Rattle.adding.proofs.Laws.Plain.{plain_7, plain_1, plain_4, plain_11, plain_more}
 use Rattle.adding.proofs.add_plain.Goals as goal
 

@@ -1,6 +1,5 @@
 -- `dw_add_constant` meets its contract. Assumes nothing.
 use mathlib.Core.Path.{ap}
-use borrow.Author.Rules.{rules}
 use Rattle.model.specs.Edit.{add_constant}
 use Rattle.direct_words.proofs.Laws.Direct.{takes_as, taken_made, not_taken}
 use Rattle.adding_calls.proofs.dw_add_constant.Goals as goal

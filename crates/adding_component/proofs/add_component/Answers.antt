@@ -1,10 +1,9 @@
 -- `adding_component::add_component` meets its contract. Assumes nothing.
 use native.Mathlib.Omega.{arith}
-use borrow.Author.Rules.{rules}
 use mathlib.Core.Path.{◌≡◌, sym, ◌∙◌, subst}
 use Prim.Native.Nat.{ℕ}
 use mathlib.Core.Option.{none}
-use lib.ListN.{length, length-map, replicate}
+use lib.ListN.{length, replicate}
 use borrow.Author.Tests.{not-true, not-false}
 use Rattle.edit.proofs.Laws.Step.{meets_7}
 use Rattle.input_rows.specs.Inputs.{RowOf}

@@ -1,12 +1,8 @@
 -- `adding_component::free_tag` meets its contract. Assumes nothing.
-use native.Mathlib.Omega.{arith}
-use borrow.Author.Rules.{rules}
 use Prim.Native.Nat.{◌+◌, ◌≤◌}
-use borrow.Author.Tests.{not-true, not-false}
 use Rattle.tag.specs.View.{bytes_of}
 use Rattle.model.specs.View.{components_of}
-use Rattle.edit.proofs.Laws.Tests.{taken, free}
-use Rattle.adding_component.proofs.Laws.Free.{Trying, record-short, trying_start, trying_next, free-once, free-long, free-found, free-none}
+use Rattle.adding_component.proofs.Laws.Free.{Trying}
 use Rattle.adding_component.proofs.free_tag.Given as goal
 
 abbrev pub invariant-loop-left : goal.invariant-loop-left

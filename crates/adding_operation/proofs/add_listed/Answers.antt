@@ -1,6 +1,5 @@
 -- `adding_operation::add_listed` meets its contract. Assumes nothing.
 use native.Mathlib.Omega.{arith}
-use borrow.Author.Rules.{rules}
 use mathlib.Core.Path.{sym, ◌∙◌}
 use Rattle.adding_operation.proofs.Laws.Listed.{listed_15, listed_16, listed-put}
 use Rattle.adding_operation.proofs.add_listed.Goals as goal

@@ -1,9 +1,7 @@
 -- `adding_operation::add_operation` meets its contract. Assumes nothing.
 use native.Mathlib.Omega.{arith}
-use borrow.Author.Rules.{rules}
 use mathlib.Core.Path.{◌≡◌, sym, ap, ◌∙◌, subst}
-use lib.ListN.{length, length-map}
-use borrow.Author.Tests.{not-true, not-false}
+use lib.ListN.{length}
 use Rattle.edit.proofs.Laws.Step.{meets_7}
 use Rattle.input_rows.specs.Inputs.{fitting, asked, RowOf}
 use Rattle.input_rows.proofs.Laws.Inputs.{asked-short}

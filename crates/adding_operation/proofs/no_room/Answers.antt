@@ -1,5 +1,4 @@
 -- `adding_operation::no_room` meets its contract. Assumes nothing.
-use borrow.Author.Rules.{rules}
 use Rattle.adding_operation.proofs.no_room.Goals as goal
 
 pub returns-in-Nothing : goal.returns-in-Nothing

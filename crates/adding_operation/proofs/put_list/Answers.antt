@@ -1,6 +1,5 @@
 -- `adding_operation::put_list` meets its contract. Assumes nothing.
 use native.Mathlib.Omega.{arith}
-use borrow.Author.Rules.{rules}
 use Rattle.adding_operation.proofs.Laws.Listed.{room-more}
 use Rattle.adding_operation.proofs.put_list.Goals as goal
 

@@ -1,5 +1,4 @@
 -- `dw_add_component` meets its contract. Assumes nothing.
-use borrow.Author.Rules.{rules}
 use Rattle.direct_words.proofs.Laws.Direct.{taken_made, not_taken}
 use Rattle.adding_operation_calls.proofs.dw_add_component.Goals as goal
 

@@ -1,6 +1,5 @@
 -- `dw_add_operation` meets its contract. Assumes nothing.
 use mathlib.Core.Path.{ap}
-use borrow.Author.Rules.{rules}
 use Rattle.component.specs.declared.model_component.Component.{Component}
 use Rattle.model.specs.Edit.{add_operation}
 use Rattle.edit_rows.specs.EditRows.{given as inputsGiven}

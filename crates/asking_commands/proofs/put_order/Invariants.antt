@@ -2,7 +2,6 @@
 use Prim.Native.Nat.{◌-◌}
 use mathlib.Core.Path.{◌≡◌}
 use lib.ListN.{length}
-use native.Mathlib.Omega.{arith}
 use Rattle.asking_commands.proofs.put_order.Given as goal
 
 abbrev pub invariant-loop-i : goal.invariant-loop-i

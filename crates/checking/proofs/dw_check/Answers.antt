@@ -1,5 +1,4 @@
 -- `dw_check` meets its contract. Assumes nothing.
-use borrow.Author.Rules.{rules}
 use Rattle.checking.proofs.Laws.Check.{check_0, check_7}
 use Rattle.checking.proofs.dw_check.Goals as goal
 

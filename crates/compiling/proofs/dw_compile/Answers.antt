@@ -1,5 +1,4 @@
 -- `dw_compile` meets its contract. Assumes nothing.
-use borrow.Author.Rules.{rules}
 use borrow.Author.Tests.{not-true, not-false}
 use Rattle.compiling.proofs.Laws.Order.{compile_7, compile_stopped, compile_ordered}
 use Rattle.compiling.proofs.dw_compile.Goals as goal

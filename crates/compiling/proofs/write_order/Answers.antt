@@ -1,5 +1,4 @@
 -- `write_order` meets its contract. Assumes nothing.
-use borrow.Author.Rules.{rules}
 use Rattle.compiling.proofs.Laws.Order.{order-narrow, order-wrote}
 use Rattle.compiling.proofs.write_order.Goals as goal
 

@@ -1,16 +1,11 @@
 -- `write_tags` meets its contract. Assumes nothing.
-use native.Mathlib.Omega.{arith}
-use borrow.Author.Rules.{rules}
-use Prim.Native.Nat.{ℕ, ◌*◌, ◌-◌, ◌≤◌, ◌<◌}
-use mathlib.Core.Path.{◌≡◌, subst}
+use Prim.Native.Nat.{◌*◌, ◌-◌, ◌≤◌}
 use mathlib.Core.Option.{some}
-use lib.ListN.{length, get_or, length-map}
 use Rattle.model.specs.View.{rows}
 use Rattle.graph.specs.Compile.{tag_at}
 use Rattle.rows.specs.Rows.{rows_in}
 use Rattle.rows.specs.Written.{Wrote}
 use Rattle.compiling.specs.Order.{tag_row}
-use Rattle.compiling.proofs.Laws.Order.{order_few, order_small, tags-none, tags-more}
 use Rattle.compiling.proofs.write_tags.Given as goal
 
 abbrev pub invariant-loop-i : goal.invariant-loop-i

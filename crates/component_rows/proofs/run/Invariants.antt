@@ -1,6 +1,5 @@
 -- `run` is safe and ends: the loop's measure is the questions that are left. Assumes nothing.
 use Prim.Native.Nat.{◌-◌}
-use native.Mathlib.Omega.{arith}
 use Rattle.component_rows.proofs.run.Given as goal
 
 abbrev pub invariant-loop-n : goal.invariant-loop-n

@@ -1,5 +1,4 @@
 -- `add_input` meets its contract. Assumes nothing.
-use borrow.Author.Rules.{rules}
 use Rattle.storing.proofs.Laws.Stored.{called}
 use Rattle.decoded.proofs.add_input.Goals as goal
 

@@ -1,5 +1,4 @@
 -- `remove_component` meets its contract. Assumes nothing.
-use borrow.Author.Rules.{rules}
 use Rattle.storing.proofs.Laws.Stored.{called}
 use Rattle.decoded.proofs.remove_component.Goals as goal
 

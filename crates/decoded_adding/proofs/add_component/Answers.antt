@@ -1,5 +1,4 @@
 -- `add_component` meets its contract. Assumes nothing.
-use borrow.Author.Rules.{rules}
 use Rattle.storing.proofs.Laws.Stored.{called}
 use Rattle.decoded_adding.proofs.add_component.Goals as goal
 

@@ -1,5 +1,4 @@
 -- `add_constant` meets its contract. Assumes nothing.
-use borrow.Author.Rules.{rules}
 use mathlib.Core.Path.{ap}
 use Rattle.model.specs.Edit.{add_constant}
 use Rattle.storing.proofs.Laws.Stored.{called}

@@ -1,5 +1,4 @@
 -- `direct_adding::add_constant_in` meets its contract. Assumes nothing.
-use borrow.Author.Rules.{rules}
 use Rattle.adding.proofs.Laws.Plain.{constant_is}
 use Rattle.direct_adding.proofs.add_constant_in.Goals as goal
 

@@ -1,5 +1,4 @@
 -- `direct_adding::add_function_in` meets its contract. Assumes nothing.
-use borrow.Author.Rules.{rules}
 use Rattle.adding.proofs.Laws.Plain.{function_is}
 use Rattle.direct_adding.proofs.add_function_in.Goals as goal
 

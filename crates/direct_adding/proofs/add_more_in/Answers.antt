@@ -1,6 +1,5 @@
 -- `direct_adding::add_more_in` meets its contract. Assumes nothing.
 use native.Mathlib.Omega.{arith}
-use borrow.Author.Rules.{rules}
 use Prim.Native.Nat.{◌<◌}
 use Rattle.direct_adding.proofs.Laws.Grown.{grew_left, grew_more}
 use Rattle.direct_adding.proofs.add_more_in.Goals as goal

@@ -1,6 +1,4 @@
 -- `direct_adding::add_plain_in` meets its contract. Assumes nothing.
-use borrow.Author.Rules.{rules}
-use borrow.Author.Tests.{not-false}
 use Rattle.direct_adding.proofs.Laws.Plain.{plain-left, plain_more}
 use Rattle.direct_adding.proofs.add_plain_in.Goals as goal
 

@@ -1,7 +1,6 @@
 -- `direct_component::add_component_in` meets its contract. Assumes nothing.
-use borrow.Author.Rules.{rules}
 use mathlib.Core.Path.{sym, ◌∙◌}
-use borrow.Author.Tests.{not-true, not-false}
+use borrow.Author.Tests.{not-false}
 use Rattle.direct_adding.proofs.Laws.Plain.{left}
 use Rattle.direct_component.proofs.Laws.Component.{unassigned, component-more, component-listed}
 use Rattle.direct_component.proofs.add_component_in.Goals as goal

@@ -1,6 +1,5 @@
 -- `direct_operation::add_listed_in` meets its contract. Assumes nothing.
 use native.Mathlib.Omega.{arith}
-use borrow.Author.Rules.{rules}
 use Rattle.direct_operation.proofs.Laws.Listed.{listed-left, listed-put}
 use Rattle.direct_operation.proofs.add_listed_in.Goals as goal
 

@@ -1,7 +1,5 @@
 -- `direct_operation::add_operation_in` meets its contract. Assumes nothing.
-use borrow.Author.Rules.{rules}
 use mathlib.Core.Path.{sym, ap, ◌∙◌}
-use borrow.Author.Tests.{not-false}
 use Rattle.input_rows.specs.Inputs.{fitting}
 use Rattle.direct_adding.proofs.Laws.Plain.{left}
 use Rattle.direct_operation.proofs.Laws.Operation.{asked_row, operation_listed}

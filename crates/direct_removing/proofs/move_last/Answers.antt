@@ -1,5 +1,4 @@
 -- `move_last` meets its contract. Assumes nothing.
-use borrow.Author.Rules.{rules}
 use mathlib.Core.Path.{sym, ap, subst, ◌∙◌}
 use lib.ListN.{take}
 use Rattle.tag.specs.Tags.{Tag}

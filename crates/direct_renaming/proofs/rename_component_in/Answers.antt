@@ -1,6 +1,5 @@
 -- `rename_component_in` meets its contract. Assumes nothing.
 use native.Mathlib.Omega.{arith}
-use borrow.Author.Rules.{rules}
 use mathlib.Core.Path.{refl}
 use Rattle.direct_rows.proofs.Laws.Took.{takes_yes, takes_no}
 use Rattle.direct_renaming.proofs.Laws.Renaming.{rename-done, sized}

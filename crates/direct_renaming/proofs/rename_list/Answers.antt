@@ -1,6 +1,5 @@
 -- `rename_list` meets its contract. Assumes nothing.
 use native.Mathlib.Omega.{arith}
-use borrow.Author.Rules.{rules}
 use Rattle.direct_renaming.proofs.Laws.Renaming.{list-renamed, list-past}
 use Rattle.direct_renaming.proofs.rename_list.Goals as goal
 

@@ -1,7 +1,5 @@
 -- `row_to_rename` meets its contract. Assumes nothing.
 use native.Mathlib.Omega.{arith}
-use borrow.Author.Rules.{rules}
-use borrow.Author.Tests.{not-false}
 use Rattle.direct_renaming.proofs.Laws.Renaming.{nothing-renamed}
 use Rattle.direct_renaming.proofs.row_to_rename.Goals as goal
 

@@ -1,8 +1,6 @@
 -- `set_parameter_in` meets its contract. Assumes nothing.
 use native.Mathlib.Omega.{arith}
-use borrow.Author.Rules.{rules}
 use mathlib.Core.Path.{refl, sym, ap, ◌∙◌}
-use borrow.Author.Tests.{not-false}
 use Rattle.component_layout.specs.Components.{component_read}
 use Rattle.direct_rows.proofs.Laws.Took.{takes_yes, takes_no}
 use Rattle.direct_setting.proofs.Laws.Setting.{parameter_set}

@@ -1,5 +1,4 @@
 -- `names` meets its contract. Assumes nothing.
-use borrow.Author.Rules.{rules}
 use Rattle.direct_swapping.proofs.Laws.Swapping.{names_unassigned, names-long, names_by}
 use Rattle.direct_swapping.proofs.names.Goals as goal
 

@@ -1,10 +1,7 @@
 -- `swap_list` meets its contract. Assumes nothing.
 use native.Mathlib.Omega.{arith}
-use borrow.Author.Rules.{rules}
-use Prim.Native.Nat.{ℕ, ◌-◌, ◌≤◌, min}
+use Prim.Native.Nat.{ℕ, min}
 use mathlib.Core.Path.{◌≡◌, ap, ◌∙◌}
-use Rattle.model.specs.View.{place_of}
-use Rattle.direct_swapping.specs.Swapping.{PlacesSwapped}
 use Rattle.direct_swapping.proofs.Laws.Swapping.{places_swapped_none, places_swapped_more, list_swapped}
 use Rattle.direct_swapping.proofs.swap_list.Goals as goal
 

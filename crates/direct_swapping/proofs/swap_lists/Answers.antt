@@ -1,7 +1,6 @@
 -- `swap_lists` meets its contract. Assumes nothing.
 use native.Mathlib.Omega.{arith}
-use borrow.Author.Rules.{rules}
-use Prim.Native.Nat.{ℕ, ◌-◌, ◌≤◌}
+use Prim.Native.Nat.{ℕ}
 use mathlib.Core.Path.{◌≡◌, subst, ◌∙◌}
 use Rattle.model.specs.View.{place_of}
 use Rattle.direct_swapping.specs.Swapping.{RowsSwapped}

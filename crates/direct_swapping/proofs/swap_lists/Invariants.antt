@@ -1,11 +1,7 @@
 -- `swap_lists` meets its contract. Assumes nothing.
-use native.Mathlib.Omega.{arith}
-use borrow.Author.Rules.{rules}
-use Prim.Native.Nat.{ℕ, ◌-◌, ◌≤◌}
-use mathlib.Core.Path.{◌≡◌, subst, ◌∙◌}
+use Prim.Native.Nat.{◌-◌, ◌≤◌}
 use Rattle.model.specs.View.{place_of}
 use Rattle.direct_swapping.specs.Swapping.{RowsSwapped}
-use Rattle.direct_swapping.proofs.Laws.Swapping.{rows_swapped_none, rows_swapped_more}
 use Rattle.direct_swapping.proofs.swap_lists.Given as goal
 
 abbrev pub invariant-loop-j : goal.invariant-loop-j

@@ -1,5 +1,4 @@
 -- `swap_place` meets its contract. Assumes nothing.
-use borrow.Author.Rules.{rules}
 use Rattle.direct_swapping.proofs.Laws.Swapping.{place_swapped, place-stays}
 use Rattle.direct_swapping.proofs.swap_place.Goals as goal
 

@@ -1,6 +1,5 @@
 -- `swap_places` meets its contract. Assumes nothing.
 use native.Mathlib.Omega.{arith}
-use borrow.Author.Rules.{rules}
 use Rattle.direct_swapping.proofs.Laws.Swapping.{swapped_narrow, swapped}
 use Rattle.direct_swapping.proofs.swap_places.Goals as goal
 

@@ -1,6 +1,5 @@
 -- `add_input_in` meets its contract. Assumes nothing.
 use native.Mathlib.Omega.{arith}
-use borrow.Author.Rules.{rules}
 use mathlib.Core.Path.{refl}
 use borrow.Author.Tests.{not-false}
 use Rattle.direct_rows.proofs.Laws.Took.{takes_no}

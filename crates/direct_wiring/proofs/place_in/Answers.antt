@@ -1,6 +1,5 @@
 -- `place_in` meets its contract. Assumes nothing.
 use native.Mathlib.Omega.{arith}
-use borrow.Author.Rules.{rules}
 use Rattle.direct_wiring.proofs.Laws.Placing.{places_no, places_yes}
 use Rattle.direct_wiring.proofs.place_in.Goals as goal
 

@@ -1,7 +1,5 @@
 -- `remove_input_in` meets its contract. Assumes nothing.
-use borrow.Author.Rules.{rules}
 use mathlib.Core.Path.{refl}
-use borrow.Author.Tests.{not-false}
 use Rattle.direct_rows.proofs.Laws.Took.{takes_no}
 use Rattle.direct_wiring.proofs.Laws.Wiring.{input_removed}
 use Rattle.direct_wiring.proofs.remove_input_in.Goals as goal

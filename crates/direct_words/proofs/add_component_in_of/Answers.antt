@@ -1,6 +1,5 @@
 -- `add_component_in_of` meets its contract. Assumes nothing.
 use mathlib.Core.Path.{refl, sym, ap, ◌∙◌}
-use borrow.Author.Rules.{rules}
 use Rattle.component_layout.specs.Components.{component_read}
 use Rattle.direct_rows.proofs.Laws.Took.{takes_no}
 use Rattle.word_edits.proofs.Laws.Words.{component_some}

@@ -1,5 +1,4 @@
 -- `add_operation_in_with` meets its contract. Assumes nothing.
-use borrow.Author.Rules.{rules}
 use Rattle.word_edits.proofs.Laws.Words.{with_none, with_some}
 use Rattle.direct_words.proofs.Laws.Direct.{takes_as}
 use Rattle.direct_words.proofs.add_operation_in_with.Goals as goal

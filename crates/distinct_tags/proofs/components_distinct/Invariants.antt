@@ -1,12 +1,9 @@
 -- `distinct_tags::components_distinct` meets its contract: pairs of rows by `Laws/Pairs.antt`. Assumes nothing.
 use Prim.Native.Nat.{◌+◌, ◌*◌, ◌≤◌, ◌-◌}
 use mathlib.Core.Path.{◌≡◌}
-use native.Mathlib.Omega.{arith}
-use borrow.Author.Rules.{rules}
 use lib.ListN.{length}
 use Rattle.model.specs.View.{rows, component_of}
-use Rattle.held.proofs.Laws.Rows.{no_entry, rows_next, rows-live}
-use Rattle.distinct_tags.proofs.Laws.Pairs.{Apart, apart-start, apart_on, apart_pair, apart_next, apart_end}
+use Rattle.distinct_tags.proofs.Laws.Pairs.{Apart}
 use Rattle.distinct_tags.proofs.components_distinct.Given as goal
 
 abbrev pub invariant-loop-i : goal.invariant-loop-i

@@ -1,12 +1,11 @@
 -- `distinct_tags::lists_distinct` meets its contract: pairs of rows by `Laws/Pairs.antt`. Assumes nothing.
-use Prim.Native.Nat.{◌+◌, ◌*◌, ◌≤◌, ◌-◌}
 use mathlib.Core.Path.{◌≡◌}
 use native.Mathlib.Omega.{arith}
 use borrow.Author.Rules.{rules}
 use lib.ListN.{length}
 use Rattle.model.specs.View.{rows, list_of}
 use Rattle.held.proofs.Laws.Rows.{no_list, rows_next, rows-live}
-use Rattle.distinct_tags.proofs.Laws.Pairs.{Apart, apart-start, apart_on, apart_pair, apart_next, apart_end}
+use Rattle.distinct_tags.proofs.Laws.Pairs.{apart-start, apart_on, apart_pair, apart_next, apart_end}
 use Rattle.distinct_tags.proofs.lists_distinct.Goals as goal
 
 pub loop-i-init : goal.loop-i-init

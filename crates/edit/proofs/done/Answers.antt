@@ -1,5 +1,4 @@
 -- `edit::done` meets its contract. Assumes nothing.
-use borrow.Author.Rules.{rules}
 use mathlib.Core.Path.{refl}
 use Rattle.model.specs.Answer.{answer_of}
 use Rattle.edit.proofs.done.Goals as goal

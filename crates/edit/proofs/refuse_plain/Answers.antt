@@ -1,5 +1,4 @@
 -- `edit::refuse_plain` meets its contract: the tag of no bytes is the one carried. Assumes nothing.
-use borrow.Author.Rules.{rules}
 use mathlib.Core.Path.{ap, ◌∙◌}
 use Rattle.tag.specs.Tags.{Tag}
 use Rattle.model.specs.Edit.{refused}

@@ -1,5 +1,4 @@
 -- `dw_evaluate_after` meets its contract. Assumes nothing.
-use borrow.Author.Rules.{rules}
 use mathlib.Core.Path.{sym, ◌∙◌}
 use borrow.Author.Tests.{not-true, not-false}
 use Rattle.storing.proofs.Laws.Stored.{no_model}

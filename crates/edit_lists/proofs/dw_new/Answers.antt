@@ -1,5 +1,4 @@
 -- `dw_new` meets its contract. Assumes nothing.
-use borrow.Author.Rules.{rules}
 use Rattle.edit_lists.proofs.Laws.Lists.{begun_7, begun_new}
 use Rattle.edit_lists.proofs.dw_new.Goals as goal
 

@@ -1,7 +1,6 @@
 -- `component_count` meets its contract. Assumes nothing.
 use Prim.Native.Nat.{ℕ, min}
 use mathlib.Core.Path.{ap, ◌∙◌}
-use borrow.Author.Rules.{rules}
 use Rattle.finding.proofs.component_count.Goals as goal
 
 pub returns : goal.returns

@@ -2,7 +2,6 @@
 use mathlib.Core.Path.{◌∙◌}
 use Rattle.finding.proofs.Laws.Rows.{row_of}
 use native.Mathlib.Omega.{arith}
-use borrow.Author.Rules.{rules}
 use Rattle.finding.proofs.component_in_row.Goals as goal
 
 pub returns-then-i-ge64 : goal.returns-then-i-ge64

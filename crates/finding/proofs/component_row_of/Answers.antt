@@ -1,12 +1,8 @@
 -- `component_row_of` meets its contract. Assumes nothing.
-use Prim.Native.Nat.{ℕ, ◌-◌, ◌≤◌, ◌<◌}
-use mathlib.Core.Logic.{◌≢◌}
-use Rattle.layout.specs.Words.{text}
 use Rattle.finding.specs.Rows.{component_at}
 use Rattle.finding.proofs.Laws.Loops.{all_more}
 use Rattle.finding.proofs.Laws.Rows.{row_here, row_other}
 use native.Mathlib.Omega.{arith}
-use borrow.Author.Rules.{rules}
 use Rattle.finding.proofs.component_row_of.Goals as goal
 
 pub loop-i-init : goal.loop-i-init

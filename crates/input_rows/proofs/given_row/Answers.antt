@@ -1,5 +1,4 @@
 -- `input_rows::given_row` meets its contract. Assumes nothing.
-use borrow.Author.Rules.{rules}
 use Rattle.input_rows.proofs.Laws.Inputs.{given_row}
 use Rattle.input_rows.proofs.given_row.Goals as goal
 

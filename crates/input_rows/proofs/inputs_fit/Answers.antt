@@ -1,5 +1,4 @@
 -- `input_rows::inputs_fit` meets its contract. Assumes nothing.
-use borrow.Author.Rules.{rules}
 use Rattle.input_rows.proofs.inputs_fit.Goals as goal
 
 pub returns-then-given : goal.returns-then-given

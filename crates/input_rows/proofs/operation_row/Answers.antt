@@ -1,5 +1,4 @@
 -- `input_rows::operation_row` meets its contract. Assumes nothing.
-use borrow.Author.Rules.{rules}
 use Rattle.input_rows.proofs.operation_row.Goals as goal
 
 pub returns-then-given : goal.returns-then-given

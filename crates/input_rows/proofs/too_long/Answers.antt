@@ -1,5 +1,4 @@
 -- `input_rows::too_long` meets its contract. Assumes nothing.
-use borrow.Author.Tests.{not-true, not-false}
 use Rattle.input_rows.proofs.Laws.Inputs.{long-none, long_0, long_a, long_1, long_b, long_2, long_d}
 use Rattle.input_rows.proofs.too_long.Goals as goal
 

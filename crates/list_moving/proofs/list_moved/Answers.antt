@@ -1,16 +1,9 @@
 -- `list_moving::list_moved` meets its contract. Assumes nothing.
 use native.Mathlib.Omega.{arith}
-use borrow.Author.Rules.{rules}
 use mathlib.Core.Path.{◌≡◌}
 use Prim.Native.Nat.{◌<◌}
-use lib.ListN.{length, length-map}
+use lib.ListN.{length}
 use Rattle.list_moving.proofs.Laws.Moving.{moved_none, moved-free, list_at, moved-over}
-use Rattle.list_moving.proofs.list_moved.Reads as reads
-use Rattle.list_moving.proofs.list_moved.Lts as lts
-use Rattle.edit.proofs.rows.with_list.Reads as with-list-reads
-use Rattle.held.proofs.find.find_list.Reads as find-list-reads
-use Rattle.list_moving.proofs.list_under.Reads as list-under-reads
-use Rattle.list_moving.proofs.without_list.Reads as without-list-reads
 use Rattle.list_moving.proofs.list_moved.Goals as goal
 
 pub returns-in_default : goal.returns-in_default

@@ -1,7 +1,5 @@
 -- `list_moving::without_list` meets its contract. Assumes nothing.
 use native.Mathlib.Omega.{arith}
-use borrow.Author.Rules.{rules}
-use mathlib.Core.Path.{refl}
 use Rattle.list_moving.proofs.without_list.Goals as goal
 
 pub returns-then-m-gt128 : goal.returns-then-m-gt128

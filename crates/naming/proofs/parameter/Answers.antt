@@ -1,5 +1,4 @@
 -- `naming::parameter` meets its contract: each arm is the definition at its kind. Assumes nothing.
-use borrow.Author.Rules.{rules}
 use Rattle.component.specs.Parameter.{name_value, name_factor, name_distance, name_thickness}
 use Rattle.naming.proofs.Arms.{plain-none}
 use borrow.Enum.Refused.{opened}

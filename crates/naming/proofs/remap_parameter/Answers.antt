@@ -1,6 +1,5 @@
 -- `naming::remap_parameter` meets its contract. Assumes nothing.
 use native.Mathlib.Omega.{arith}
-use borrow.Author.Rules.{rules}
 use Rattle.naming.specs.Names.{remap_parameters}
 use Rattle.component.specs.Parameter.{name_from_min, name_from_max, name_to_min, name_to_max}
 use Rattle.naming.proofs.Arms.{past}

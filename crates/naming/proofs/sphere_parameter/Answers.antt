@@ -1,6 +1,5 @@
 -- `naming::sphere_parameter` meets its contract. Assumes nothing.
 use native.Mathlib.Omega.{arith}
-use borrow.Author.Rules.{rules}
 use Rattle.naming.specs.Names.{sphere_parameters}
 use Rattle.component.specs.Parameter.{name_centre, name_radius}
 use Rattle.naming.proofs.Arms.{past}

@@ -1,5 +1,4 @@
 -- `naming::type_name` meets its contract: each arm is the definition at its kind. Assumes nothing.
-use borrow.Author.Rules.{rules}
 use Rattle.naming.specs.Names.{type_name}
 use Rattle.naming.proofs.type_name.Goals as goal
 

@@ -1,5 +1,4 @@
 -- `newest::place_after` meets its contract. Assumes nothing.
-use borrow.Author.Rules.{rules}
 use Rattle.model.specs.Answer.{answer_of}
 use Rattle.newest.proofs.place_after.Goals as goal
 

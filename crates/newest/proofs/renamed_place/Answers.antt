@@ -1,5 +1,4 @@
 -- `newest::renamed_place` meets its contract. Assumes nothing.
-use borrow.Author.Rules.{rules}
 use Rattle.newest.proofs.Laws.Place.{place_moves, place-stays}
 use Rattle.newest.proofs.renamed_place.Goals as goal
 

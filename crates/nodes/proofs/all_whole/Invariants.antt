@@ -1,13 +1,10 @@
 -- `nodes::all_whole` meets its contract: `Laws/Wires.antt`. Assumes nothing.
-use native.Mathlib.Omega.{arith}
-use Prim.Native.Nat.{ℕ, ◌≤◌, ◌<◌, ◌-◌}
-use mathlib.Core.Path.{◌≡◌, sym, subst, ◌∙◌}
-use mathlib.Core.Bool.{true, false≢true}
+use Prim.Native.Nat.{ℕ, ◌≤◌, ◌-◌}
+use mathlib.Core.Path.{◌≡◌}
+use mathlib.Core.Bool.{true}
 use mathlib.Core.List.Memᴰ
-use lib.ListN.{get_or, take}
-use borrow.Author.Tests.{not-false}
+use lib.ListN.{take}
 use Rattle.nodes.specs.Nodes.{◌∈◌, whole_of}
-use Rattle.nodes.proofs.Laws.Wires.{take_at, whole_more}
 use Rattle.nodes.proofs.all_whole.Given as goal
 
 abbrev pub invariant-loop-i : goal.invariant-loop-i

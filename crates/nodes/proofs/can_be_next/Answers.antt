@@ -1,5 +1,4 @@
 -- `nodes::can_be_next` meets its contract. Assumes nothing.
-use borrow.Author.Rules.{rules}
 use borrow.Author.Tests.{eq-eqb, ne_eqb}
 use Rattle.nodes.proofs.can_be_next.Goals as goal
 

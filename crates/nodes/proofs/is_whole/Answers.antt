@@ -1,5 +1,4 @@
 -- `nodes::is_whole` meets its contract. Assumes nothing.
-use borrow.Author.Rules.{rules}
 use borrow.Author.Tests.{lt-ltb, le-ltb, not-true, not-false}
 use Rattle.nodes.proofs.is_whole.Goals as goal
 

@@ -1,9 +1,9 @@
 -- `nodes::lay` meets its contract: `Laws/Wires.antt`. Assumes nothing.
 use native.Mathlib.Omega.{arith}
-use Prim.Native.Nat.{ℕ, ◌<◌, ◌-◌}
+use Prim.Native.Nat.{ℕ, ◌<◌}
 use mathlib.Core.Bool.{true≢false, false≢true}
 use lib.ListN.{length-replicate, get_or-replicate}
-use Rattle.nodes.proofs.Laws.Wires.{Going, going_start, going_room, going_more, going_stuck, going_done}
+use Rattle.nodes.proofs.Laws.Wires.{going_start, going_room, going_more, going_stuck, going_done}
 use Rattle.nodes.proofs.lay.Goals as goal
 
 pub loop-placed-init : goal.loop-placed-init

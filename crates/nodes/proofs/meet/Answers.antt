@@ -1,5 +1,4 @@
 -- `nodes::meet` meets its contract: `Laws/Line.antt`. Assumes nothing.
-use borrow.Author.Rules.{rules}
 use mathlib.Core.Logic.{inl, inr}
 use Rattle.nodes.proofs.Laws.Line.{met_same, met_room, met_more}
 use Rattle.nodes.proofs.meet.Goals as goal

@@ -3,7 +3,7 @@ use native.Mathlib.Omega.{arith}
 use Prim.Native.Nat.{◌<◌, ◌-◌}
 use mathlib.Core.Path.{sym, ◌∙◌}
 use lib.ListN.{get_or}
-use Rattle.nodes.proofs.Laws.Wires.{Passed, passed_more, passed_end, take_at}
+use Rattle.nodes.proofs.Laws.Wires.{passed_more, passed_end, take_at}
 use Rattle.nodes.proofs.next_ready.Goals as goal
 
 pub loop-i-init : goal.loop-i-init

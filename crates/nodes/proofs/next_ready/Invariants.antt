@@ -1,9 +1,5 @@
 -- `nodes::next_ready` meets its contract: `Laws/Wires.antt`. Assumes nothing.
-use native.Mathlib.Omega.{arith}
-use Prim.Native.Nat.{◌<◌, ◌-◌}
-use mathlib.Core.Path.{sym, ◌∙◌}
-use lib.ListN.{get_or}
-use Rattle.nodes.proofs.Laws.Wires.{Passed, passed_more, passed_end, take_at}
+use Rattle.nodes.proofs.Laws.Wires.{Passed}
 use Rattle.nodes.proofs.next_ready.Given as goal
 
 abbrev pub invariant-loop-i : goal.invariant-loop-i

@@ -1,9 +1,9 @@
 -- `nodes::reach` meets its contract: `Laws/Line.antt`. Assumes nothing.
 use native.Mathlib.Omega.{arith}
-use Prim.Native.Nat.{◌<◌, ◌-◌}
+use Prim.Native.Nat.{◌<◌}
 use lib.ListN.{get_or}
 use mathlib.Core.Path.{refl}
-use Rattle.nodes.proofs.Laws.Line.{Going, none-listed, going_first, going_small, going_turn, going_end}
+use Rattle.nodes.proofs.Laws.Line.{none-listed, going_first, going_small, going_turn, going_end}
 use Rattle.nodes.proofs.reach.Goals as goal
 
 pub meet-n-requires : goal.meet-n-requires

@@ -1,9 +1,6 @@
 -- `nodes::reach` meets its contract: `Laws/Line.antt`. Assumes nothing.
-use native.Mathlib.Omega.{arith}
-use Prim.Native.Nat.{◌<◌, ◌-◌}
-use lib.ListN.{get_or}
-use mathlib.Core.Path.{refl}
-use Rattle.nodes.proofs.Laws.Line.{Going, none-listed, going_first, going_small, going_turn, going_end}
+use Prim.Native.Nat.{◌-◌}
+use Rattle.nodes.proofs.Laws.Line.{Going}
 use Rattle.nodes.proofs.reach.Given as goal
 
 abbrev pub invariant-loop-i : goal.invariant-loop-i

@@ -1,5 +1,4 @@
 -- `nodes::ready` meets its contract. Assumes nothing.
-use borrow.Author.Rules.{rules}
 use borrow.Author.Tests.{not-true, not-false}
 use Rattle.nodes.proofs.ready.Goals as goal
 

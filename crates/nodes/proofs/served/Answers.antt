@@ -1,5 +1,4 @@
 -- `nodes::served` meets its contract. Assumes nothing.
-use borrow.Author.Rules.{rules}
 use borrow.Author.Tests.{lt-ltb, le-ltb}
 use Rattle.nodes.proofs.served.Goals as goal
 

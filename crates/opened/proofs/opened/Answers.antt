@@ -1,5 +1,4 @@
 -- `opened` meets its contract. Assumes nothing.
-use borrow.Author.Rules.{rules}
 use borrow.Author.Tests.{not-true, not-false}
 use Rattle.opened.proofs.Laws.Said.{opens_none, opens_some}
 use Rattle.opened.proofs.opened.Goals as goal

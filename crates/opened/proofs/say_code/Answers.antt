@@ -1,5 +1,4 @@
 -- `say_code` meets its contract. Assumes nothing.
-use borrow.Author.Rules.{rules}
 use mathlib.Core.Path.{ap}
 use Rattle.tag.specs.Tags.{Tag}
 use Rattle.report.specs.Report.{Report}

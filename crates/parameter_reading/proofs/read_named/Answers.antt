@@ -1,5 +1,4 @@
 -- `parameter_reading::read_named` meets its contract. Assumes nothing.
-use borrow.Author.Rules.{rules}
 use mathlib.Core.Path.{sym, ◌∙◌}
 use Rattle.parameter_reading.proofs.read_named.Goals as goal
 

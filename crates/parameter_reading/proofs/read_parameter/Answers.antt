@@ -1,5 +1,4 @@
 -- `parameter_reading::read_parameter` meets its contract: each arm is the definition at its kind. Assumes nothing.
-use borrow.Author.Rules.{rules}
 use Rattle.component.specs.Parameter.{read_parameter, name_value, name_factor, name_distance, name_thickness}
 use Rattle.parameter_reading.proofs.Arms.{plain_reading}
 use borrow.Enum.Refused.{opened}

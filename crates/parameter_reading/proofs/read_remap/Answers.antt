@@ -1,5 +1,4 @@
 -- `parameter_reading::read_remap` meets its contract. Assumes nothing.
-use borrow.Author.Rules.{rules}
 use mathlib.Core.Path.{sym, ◌∙◌}
 use Rattle.component.specs.Parameter.{read_parameter, name_from_min, name_from_max, name_to_min, name_to_max}
 use Rattle.parameter_reading.proofs.read_remap.Goals as goal

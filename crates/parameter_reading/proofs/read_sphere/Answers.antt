@@ -1,5 +1,4 @@
 -- `parameter_reading::read_sphere` meets its contract. Assumes nothing.
-use borrow.Author.Rules.{rules}
 use mathlib.Core.Path.{sym, ◌∙◌}
 use Rattle.component.specs.Parameter.{read_parameter, name_centre, name_radius}
 use Rattle.parameter_reading.proofs.read_sphere.Goals as goal

@@ -1,5 +1,4 @@
 -- `parameter_reading::read_torus` meets its contract. Assumes nothing.
-use borrow.Author.Rules.{rules}
 use mathlib.Core.Path.{sym, ◌∙◌}
 use Rattle.component.specs.Parameter.{read_parameter, name_centre, name_radius, name_thickness}
 use Rattle.parameter_reading.proofs.read_torus.Goals as goal

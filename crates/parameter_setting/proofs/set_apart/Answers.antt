@@ -1,6 +1,5 @@
 -- `parameter_setting::set_apart` meets its contract. Assumes nothing.
 use mathlib.Core.Path.{sym, ◌∙◌}
-use borrow.Author.Rules.{rules}
 use Rattle.parameter_setting.proofs.set_apart.Goals as goal
 
 pub returns-then-too_near : goal.returns-then-too_near

@@ -1,6 +1,5 @@
 -- `parameter_setting::set_named` meets its contract. Assumes nothing.
 use mathlib.Core.Path.{sym, ◌∙◌}
-use borrow.Author.Rules.{rules}
 use Rattle.parameter_setting.proofs.set_named.Goals as goal
 
 pub returns-then-same_bytes : goal.returns-then-same_bytes

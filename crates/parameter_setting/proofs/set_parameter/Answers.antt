@@ -1,5 +1,4 @@
 -- `parameter_setting::set_parameter` meets its contract. Assumes nothing.
-use borrow.Author.Rules.{rules}
 use Rattle.component.specs.Parameter.{set_parameter}
 use Rattle.parameter_setting.proofs.set_parameter.Goals as goal
 

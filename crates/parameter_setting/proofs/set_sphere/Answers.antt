@@ -1,5 +1,4 @@
 -- `parameter_setting::set_sphere` meets its contract. Assumes nothing.
-use borrow.Author.Rules.{rules}
 use Rattle.component.specs.Parameter.{set_value, name_radius}
 use Rattle.parameter_setting.proofs.set_sphere.Goals as goal
 

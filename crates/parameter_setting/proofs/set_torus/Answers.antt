@@ -1,5 +1,4 @@
 -- `parameter_setting::set_torus` meets its contract. Assumes nothing.
-use borrow.Author.Rules.{rules}
 use mathlib.Core.Path.{sym, ◌∙◌}
 use Rattle.component.specs.Parameter.{set_value, name_radius, name_thickness}
 use Rattle.parameter_setting.proofs.set_torus.Goals as goal

@@ -1,5 +1,4 @@
 -- `parameter_setting::set_value` meets its contract: each arm is the definition at its kind. Assumes nothing.
-use borrow.Author.Rules.{rules}
 use Rattle.component.specs.Parameter.{set_value, name_factor, name_distance, name_thickness}
 use Rattle.parameter_setting.proofs.Arms.{plain_value}
 use borrow.Enum.Refused.{opened}

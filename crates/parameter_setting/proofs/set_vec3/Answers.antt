@@ -1,5 +1,4 @@
 -- `parameter_setting::set_vec3` meets its contract: each arm is the definition at its kind. Assumes nothing.
-use borrow.Author.Rules.{rules}
 use Rattle.component.specs.Parameter.{set_vec3, name_centre}
 use Rattle.parameter_setting.proofs.Arms.{uncentred_vec3}
 use borrow.Enum.Refused.{opened}

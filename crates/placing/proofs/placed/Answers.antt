@@ -1,7 +1,6 @@
 -- `placing::placed` meets its contract: past the places' end nothing is stored. Assumes nothing.
-use borrow.Author.Rules.{rules}
 use mathlib.Core.Path.{◌≡◌, sym}
-use lib.ListN.{length, length-map}
+use lib.ListN.{length}
 use lib.Seq.{set_out}
 use native.Mathlib.Omega.{arith}
 use Rattle.placing.proofs.placed.Goals as goal

@@ -1,22 +1,10 @@
 -- `removing::remove_component` meets its contract. Assumes nothing.
-use borrow.Author.Rules.{rules}
 use mathlib.Core.Path.{◌≡◌, sym, ◌∙◌}
 use mathlib.Core.Bool.{true}
-use lib.ListN.{length, length-map}
-use borrow.Author.Tests.{not-true, not-false}
+use lib.ListN.{length}
 use Rattle.model.specs.View.{passes}
 use Rattle.edit.proofs.Laws.Step.{meets_7}
 use Rattle.removing.proofs.Laws.Removing.{held_at, remove_1, remove_12, remove-done}
-use Rattle.removing.proofs.remove_component.Reads as reads
-use Rattle.removing.proofs.remove_component.Lts as lts
-use Rattle.edit.proofs.done.Reads as done-reads
-use Rattle.edit.proofs.refuse.Reads as refuse-reads
-use Rattle.edit.proofs.refuse_plain.Reads as refuse-plain-reads
-use Rattle.held.proofs.find.find_component.Reads as find-component-reads
-use Rattle.validity.proofs.is_valid.Reads as is-valid-reads
-use Rattle.removing.proofs.swapping.places_swapped.Reads as places-swapped-reads
-use Rattle.removing.proofs.without_entry.Reads as without-entry-reads
-use Rattle.tag.proofs.tag_of.Reads as tag-of-reads
 use Rattle.removing.proofs.remove_component.Goals as goal
 
 pub returns-then-not-is_valid : goal.returns-then-not-is_valid

@@ -1,21 +1,9 @@
 -- `renaming::rename_component` meets its contract. Assumes nothing.
-use borrow.Author.Rules.{rules}
 use mathlib.Core.Path.{◌≡◌, sym, ◌∙◌}
 use mathlib.Core.Bool.{true}
-use Prim.Native.Nat.{◌<◌}
-use borrow.Author.Tests.{not-true, not-false}
 use Rattle.model.specs.View.{passes}
 use Rattle.edit.proofs.Laws.Step.{meets_7}
 use Rattle.renaming.proofs.Laws.Renaming.{rename_1, rename_1_new, rename_11, rename_12, rename-done}
-use Rattle.renaming.proofs.rename_component.Reads as reads
-use Rattle.renaming.proofs.rename_component.Lts as lts
-use Rattle.edit.proofs.made.Reads as made_reads
-use Rattle.edit.proofs.refuse.Reads as refuse-reads
-use Rattle.edit.proofs.refuse_plain.Reads as refuse-plain-reads
-use Rattle.held.proofs.find.find_component.Reads as find-component-reads
-use Rattle.validity.proofs.is_valid.Reads as is-valid-reads
-use Rattle.renaming.proofs.tag_moved.Reads as tag-moved-reads
-use Rattle.tag.proofs.tag_of.Reads as tag-of-reads
 use Rattle.renaming.proofs.rename_component.Goals as goal
 
 pub returns-then-not-is_valid : goal.returns-then-not-is_valid

@@ -1,11 +1,10 @@
 -- `write_padded` meets its contract. Assumes nothing.
-use Prim.Native.Nat.{ℕ, ◌+◌, ◌-◌, ◌≤◌}
+use Prim.Native.Nat.{ℕ, ◌+◌}
 use mathlib.Core.Path.{◌≡◌, sym, ap, ◌∙◌}
 use native.Mathlib.Omega.{arith}
 use native.Mathlib.Numerals.{add-one}
 use mathlib.Core.List.{List}
 use lib.ListN.{length, set}
-use borrow.Author.Rules.{rules}
 use lib.Seq.{paste, paste-zero, paste-suc, length-paste}
 use Rattle.tag.specs.View.{bytes_of}
 use Rattle.report.specs.Report.{padded}

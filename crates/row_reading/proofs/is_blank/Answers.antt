@@ -1,9 +1,8 @@
 -- `is_blank` meets its contract. Assumes nothing.
-use Prim.Native.Nat.{◌-◌, ◌≤◌}
+use Prim.Native.Nat.{◌-◌}
 use mathlib.Core.Path.{◌≡◌, sym, ap}
 use mathlib.Core.Bool.{true}
 use native.Mathlib.Omega.{arith}
-use borrow.Author.Rules.{rules}
 use Rattle.rows.specs.Rows.{blank}
 use Rattle.row_reading.proofs.Laws.{blank-next, blank-stop, blank_rest}
 use Rattle.row_reading.proofs.is_blank.Goals as goal

@@ -1,11 +1,8 @@
 -- `is_blank` meets its contract. Assumes nothing.
 use Prim.Native.Nat.{◌-◌, ◌≤◌}
-use mathlib.Core.Path.{◌≡◌, sym, ap}
+use mathlib.Core.Path.{◌≡◌}
 use mathlib.Core.Bool.{true}
-use native.Mathlib.Omega.{arith}
-use borrow.Author.Rules.{rules}
 use Rattle.rows.specs.Rows.{blank}
-use Rattle.row_reading.proofs.Laws.{blank-next, blank-stop, blank_rest}
 use Rattle.row_reading.proofs.is_blank.Given as goal
 
 abbrev pub invariant-loop-i : goal.invariant-loop-i

@@ -2,7 +2,6 @@
 use mathlib.Core.Path.{sym, ap, ◌∙◌}
 use mathlib.Core.Bool.{Bool, cond}
 use mathlib.Core.Option.{none, some}
-use borrow.Author.Rules.{rules}
 use Rattle.component_layout.specs.Components.{component_read}
 use Rattle.rows.specs.Rows.{same_words}
 use Rattle.row_reading.proofs.Laws.{component-none, component_own}

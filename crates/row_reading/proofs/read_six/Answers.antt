@@ -1,5 +1,4 @@
 -- `read_six` meets its contract. Assumes nothing.
-use borrow.Author.Rules.{rules}
 use Rattle.row_reading.proofs.read_six.Goals as goal
 
 pub returns : goal.returns

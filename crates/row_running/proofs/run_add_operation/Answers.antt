@@ -1,5 +1,4 @@
 -- `row_running::run_add_operation` meets its contract. Assumes nothing.
-use borrow.Author.Rules.{rules}
 use Rattle.row_running.proofs.Laws.Row.{operation_none, operation_given}
 use Rattle.row_running.proofs.run_add_operation.Goals as goal
 

@@ -1,5 +1,4 @@
 -- `row_running::run_adding` meets its contract. Assumes nothing.
-use borrow.Author.Rules.{rules}
 use mathlib.Core.Path.{sym, ap, ◌∙◌}
 use Rattle.component_layout.specs.Components.{component_read}
 use Rattle.row_running.proofs.Laws.Row.{runs_operation, runs_function, runs_component, no_component, is_four}

@@ -1,5 +1,4 @@
 -- `row_running::run_rename` meets its contract. Assumes nothing.
-use borrow.Author.Rules.{rules}
 use Rattle.row_running.proofs.Laws.Row.{stepped_rename}
 use Rattle.row_running.proofs.run_rename.Goals as goal
 

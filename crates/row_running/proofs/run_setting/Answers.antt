@@ -1,5 +1,4 @@
 -- `row_running::run_setting` meets its contract. Assumes nothing.
-use borrow.Author.Rules.{rules}
 use mathlib.Core.Path.{sym, ap, ◌∙◌}
 use Rattle.component_layout.specs.Components.{data_read}
 use Rattle.row_running.proofs.Laws.Row.{runs_parameter, no-data}

@@ -1,8 +1,6 @@
 -- `setting::set_parameter` meets its contract. Assumes nothing.
 use native.Mathlib.Omega.{arith}
-use borrow.Author.Rules.{rules}
 use mathlib.Core.Path.{sym, ◌∙◌, subst}
-use borrow.Author.Tests.{not-true, not-false}
 use Rattle.model.specs.declared.implicit_model.Model.{Model as Record}
 use Rattle.model.specs.Edit.{done}
 use Rattle.held.proofs.Laws.Rows.{no_entry}

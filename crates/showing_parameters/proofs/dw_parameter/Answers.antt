@@ -1,5 +1,4 @@
 -- `dw_parameter` meets its contract. Assumes nothing.
-use borrow.Author.Rules.{rules}
 use mathlib.Core.Path.{sym, ap, ◌∙◌}
 use Rattle.component_layout.specs.Components.{component_read}
 use Rattle.showing_parameters.proofs.Laws.Parameters.{parameter_none, parameter_named}

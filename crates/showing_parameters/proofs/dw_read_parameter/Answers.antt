@@ -1,5 +1,4 @@
 -- `dw_read_parameter` meets its contract. Assumes nothing.
-use borrow.Author.Rules.{rules}
 use mathlib.Core.Path.{refl, sym, ap, ◌∙◌}
 use mathlib.Core.Option.{none, some}
 use borrow.Author.Tests.{not-true, not-false}

@@ -1,6 +1,5 @@
 -- `dw_type_name` meets its contract. Assumes nothing.
 use native.Mathlib.Omega.{arith}
-use borrow.Author.Rules.{rules}
 use mathlib.Core.Path.{sym, ap, ◌∙◌}
 use Rattle.component_layout.specs.Components.{component_read}
 use Rattle.showing_parameters.proofs.Laws.Parameters.{inputs_few, kind_none, kind_named}

@@ -1,5 +1,4 @@
 -- `say_data` meets its contract. Assumes nothing.
-use borrow.Author.Rules.{rules}
 use mathlib.Core.Path.{ap, ◌∙◌}
 use Rattle.component.specs.declared.model_component.Reading.TheVariants.{Read}
 use Rattle.showing_parameters.proofs.Laws.Parameters.{nothing-shown, boolean_shown, value-shown, vector_shown}

@@ -1,10 +1,9 @@
 -- `sound_components::components_sound` meets its contract: one row by `Laws/Entries.antt`, the two indices by `Laws/Looking.antt`. Assumes nothing.
-use Prim.Native.Nat.{ℕ, ◌+◌, ◌*◌, ◌<◌, ◌≤◌, ◌-◌}
+use Prim.Native.Nat.{ℕ, ◌+◌, ◌<◌}
 use mathlib.Core.Path.{◌≡◌, sym, ◌∙◌}
 use mathlib.Core.Bool.{Bool}
 use mathlib.Core.List.{List, ◌∷◌}
 use native.Mathlib.Omega.{arith}
-use borrow.Author.Rules.{rules}
 use borrow.Author.Tests.{eq-eqb, ne_eqb}
 use lib.ListN.{length, drop, get_or}
 use Rattle.model.specs.declared.implicit_model.Model.{Model as Record}
@@ -13,7 +12,7 @@ use Rattle.model.specs.View.{rows, components_of, component_of, lists_of, list_o
 use Rattle.sound_components.specs.Sound.{entry_sound}
 use Rattle.held.proofs.Laws.Rows.{no_entry, no_list, rows_next, rows-length}
 use Rattle.sound_components.proofs.Laws.Entries.{entry-long, entry-plain, entry-missing, entry_found}
-use Rattle.sound_components.proofs.Laws.Looking.{Looking, looking_start, looking_on, looking_found, looking_missing, looking_next, looking_stop, looking_end}
+use Rattle.sound_components.proofs.Laws.Looking.{looking_start, looking_on, looking_found, looking_missing, looking_next, looking_stop, looking_end}
 use Rattle.sound_components.proofs.components_sound.Goals as goal
 
 abbrev entry : Record → ℕ → ComponentEntry

@@ -1,8 +1,7 @@
 -- `sound_lists::list_sound` meets its contract. Assumes nothing.
 use mathlib.Core.Path.{◌≡◌, ◌∙◌}
-use borrow.Author.Rules.{rules}
 use native.Mathlib.Omega.{arith}
-use lib.ListN.{length, length-map}
+use lib.ListN.{length}
 use Rattle.sound_lists.proofs.Laws.Lists.{list-long, list-none, list-many, list-sound}
 use Rattle.sound_lists.proofs.list_sound.Goals as goal
 

@@ -1,12 +1,9 @@
 -- `sound_lists::lists_sound` meets its contract. Assumes nothing.
 use Prim.Native.Nat.{◌≤◌, ◌-◌}
-use mathlib.Core.Path.{◌≡◌, refl, sym, ◌∙◌}
-use native.Mathlib.Omega.{arith}
-use borrow.Author.Rules.{rules}
+use mathlib.Core.Path.{◌≡◌}
 use lib.ListN.{drop, length}
 use Rattle.model.specs.View.{rows, every}
 use Rattle.sound_lists.specs.Sound.{list_sound}
-use Rattle.held.proofs.Laws.Rows.{rows_next, rows-live, every_hit, every_miss, every_end}
 use Rattle.sound_lists.proofs.lists_sound.Given as goal
 
 abbrev pub invariant-loop-i : goal.invariant-loop-i

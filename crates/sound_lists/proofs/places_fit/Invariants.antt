@@ -1,11 +1,8 @@
 -- `sound_lists::places_fit` meets its contract. Assumes nothing.
 use Prim.Native.Nat.{◌≤◌, ◌-◌}
-use mathlib.Core.Path.{◌≡◌, refl, sym, ◌∙◌}
-use native.Mathlib.Omega.{arith}
-use borrow.Author.Rules.{rules}
+use mathlib.Core.Path.{◌≡◌}
 use lib.ListN.{drop}
-use Rattle.model.specs.View.{rows, every, place_fits, place_of}
-use Rattle.held.proofs.Laws.Rows.{rows_next, rows-length, every_hit, every_miss, every_end}
+use Rattle.model.specs.View.{rows, every, place_fits}
 use Rattle.sound_lists.proofs.places_fit.Given as goal
 
 abbrev pub invariant-loop-i : goal.invariant-loop-i

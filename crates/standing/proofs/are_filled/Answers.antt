@@ -1,10 +1,7 @@
 -- `are_filled` meets its contract. Assumes nothing.
-use Prim.Native.Nat.{◌-◌, ◌≤◌}
-use Rattle.standing.specs.Standing.{Filled}
 use Rattle.finding.proofs.Laws.Loops.{no_yes}
 use Rattle.standing.proofs.Laws.Checks.{filled_more}
 use native.Mathlib.Omega.{arith}
-use borrow.Author.Rules.{rules}
 use Rattle.standing.proofs.are_filled.Goals as goal
 
 pub loop-j-init : goal.loop-j-init

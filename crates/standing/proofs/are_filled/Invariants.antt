@@ -1,10 +1,6 @@
 -- `are_filled` meets its contract. Assumes nothing.
 use Prim.Native.Nat.{◌-◌, ◌≤◌}
 use Rattle.standing.specs.Standing.{Filled}
-use Rattle.finding.proofs.Laws.Loops.{no_yes}
-use Rattle.standing.proofs.Laws.Checks.{filled_more}
-use native.Mathlib.Omega.{arith}
-use borrow.Author.Rules.{rules}
 use Rattle.standing.proofs.are_filled.Given as goal
 
 abbrev pub invariant-loop-j : goal.invariant-loop-j

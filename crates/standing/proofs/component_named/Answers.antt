@@ -1,7 +1,6 @@
 -- `component_named` meets its contract. Assumes nothing.
 use Rattle.standing.proofs.Laws.Checks.{named_by}
 use native.Mathlib.Omega.{arith}
-use borrow.Author.Rules.{rules}
 use Rattle.standing.proofs.component_named.Goals as goal
 
 pub returns-then-n-i : goal.returns-then-n-i

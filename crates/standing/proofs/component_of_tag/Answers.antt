@@ -1,6 +1,5 @@
 -- `component_of_tag` meets its contract. Assumes nothing.
 use native.Mathlib.Omega.{arith}
-use borrow.Author.Rules.{rules}
 use Rattle.standing.proofs.component_of_tag.Goals as goal
 
 pub returns-then-n-gt64 : goal.returns-then-n-gt64

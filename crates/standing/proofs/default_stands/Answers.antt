@@ -2,7 +2,6 @@
 use mathlib.Core.Path.{sym, ◌∙◌}
 use mathlib.Core.Logic.{inl, inr}
 use borrow.Author.Tests.{ltb-true}
-use borrow.Author.Rules.{rules}
 use Rattle.standing.proofs.default_stands.Goals as goal
 
 pub returns-then-read_word-eq0 : goal.returns-then-read_word-eq0

@@ -4,7 +4,6 @@ use Rattle.component_layout.specs.Components.{component_read}
 use Rattle.finding.proofs.Laws.Loops.{no_yes}
 use Rattle.standing.proofs.Laws.Checks.{listed-none, listed-count}
 use native.Mathlib.Omega.{arith}
-use borrow.Author.Rules.{rules}
 use Rattle.standing.proofs.is_listed.Goals as goal
 
 pub returns-in_default : goal.returns-in_default

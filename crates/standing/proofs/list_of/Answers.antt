@@ -1,7 +1,6 @@
 -- `list_of` meets its contract. Assumes nothing.
 use Rattle.standing.proofs.Laws.Checks.{list-none, list-found, list_untold}
 use native.Mathlib.Omega.{arith}
-use borrow.Author.Rules.{rules}
 use Rattle.standing.proofs.list_of.Goals as goal
 
 pub returns-then-n-j : goal.returns-then-n-j

@@ -1,7 +1,6 @@
 -- `owners` meets its contract. Assumes nothing.
-use Prim.Native.Nat.{ℕ, ◌-◌, ◌≤◌}
+use Prim.Native.Nat.{ℕ}
 use mathlib.Core.Path.{◌≡◌, refl, subst}
-use borrow.Author.Tests.{not-false}
 use Rattle.standing.specs.Standing.{Owners}
 use Rattle.finding.proofs.Laws.Loops.{no_yes}
 use Rattle.standing.proofs.Laws.Checks.{owners_more}

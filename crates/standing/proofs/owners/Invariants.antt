@@ -1,11 +1,6 @@
 -- `owners` meets its contract. Assumes nothing.
-use Prim.Native.Nat.{ℕ, ◌-◌, ◌≤◌}
-use mathlib.Core.Path.{◌≡◌, refl, subst}
-use borrow.Author.Tests.{not-false}
+use Prim.Native.Nat.{◌-◌, ◌≤◌}
 use Rattle.standing.specs.Standing.{Owners}
-use Rattle.finding.proofs.Laws.Loops.{no_yes}
-use Rattle.standing.proofs.Laws.Checks.{owners_more}
-use native.Mathlib.Omega.{arith}
 use Rattle.standing.proofs.owners.Given as goal
 
 abbrev pub invariant-loop-i : goal.invariant-loop-i

@@ -1,7 +1,6 @@
 -- `place_named` meets its contract. Assumes nothing.
 use Rattle.standing.proofs.Laws.Checks.{place_by}
 use native.Mathlib.Omega.{arith}
-use borrow.Author.Rules.{rules}
 use Rattle.standing.proofs.place_named.Goals as goal
 
 pub returns-then-len-eq0 : goal.returns-then-len-eq0

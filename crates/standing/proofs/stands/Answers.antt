@@ -1,5 +1,4 @@
 -- `stands` meets its contract. Assumes nothing.
-use borrow.Author.Rules.{rules}
 use Rattle.standing.proofs.stands.Goals as goal
 
 pub returns : goal.returns

@@ -1,7 +1,6 @@
 -- `wire` meets its contract. Assumes nothing.
 use Rattle.standing.proofs.Laws.Checks.{wire-unlisted, wire-past, wire-named, wire_untold}
 use native.Mathlib.Omega.{arith}
-use borrow.Author.Rules.{rules}
 use Rattle.standing.proofs.wire.Goals as goal
 
 pub returns-then-o-ge128 : goal.returns-then-o-ge128

@@ -4,7 +4,6 @@ use Rattle.finding.proofs.Laws.Loops.{not_ok}
 use Rattle.standing.proofs.Laws.Model.{held-head}
 use Rattle.standing.proofs.Laws.Seven.{stands}
 use native.Mathlib.Omega.{arith}
-use borrow.Author.Rules.{rules}
 use Rattle.standing.proofs.wired.Goals as goal
 
 pub returns-then-not-holds : goal.returns-then-not-holds

@@ -1,7 +1,7 @@
 -- `wires` meets its contract. Assumes nothing.
-use Prim.Native.Nat.{ℕ, ◌-◌, ◌*◌, ◌/◌, ◌%◌, ◌≤◌, ◌<◌}
-use mathlib.Core.Path.{◌≡◌, refl}
-use lib.ListN.{length, get_or, length-set}
+use Prim.Native.Nat.{◌/◌, ◌%◌}
+use mathlib.Core.Path.{refl}
+use lib.ListN.{get_or, length-set}
 use Rattle.standing.specs.Standing.{Wire}
 use Rattle.finding.proofs.Laws.Loops.{each_more}
 use native.Mathlib.Omega.{arith}

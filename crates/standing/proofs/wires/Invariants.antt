@@ -1,10 +1,8 @@
 -- `wires` meets its contract. Assumes nothing.
 use Prim.Native.Nat.{ℕ, ◌-◌, ◌*◌, ◌/◌, ◌%◌, ◌≤◌, ◌<◌}
-use mathlib.Core.Path.{◌≡◌, refl}
-use lib.ListN.{length, get_or, length-set}
+use mathlib.Core.Path.{◌≡◌}
+use lib.ListN.{length, get_or}
 use Rattle.standing.specs.Standing.{Wire}
-use Rattle.finding.proofs.Laws.Loops.{each_more}
-use native.Mathlib.Omega.{arith}
 use Rattle.standing.proofs.wires.Given as goal
 
 abbrev pub invariant-loop-q : goal.invariant-loop-q

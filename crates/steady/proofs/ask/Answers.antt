@@ -1,5 +1,4 @@
 -- `ask` meets its contract. Assumes nothing.
-use borrow.Author.Rules.{rules}
 use mathlib.Core.Path.{sym, ◌∙◌, subst}
 use Rattle.tag.specs.Tags.{Tag}
 use Rattle.evaluating.specs.Evaluate.{EvaluatesAs}

@@ -1,5 +1,4 @@
 -- `evaluate_after` meets its contract. Assumes nothing.
-use borrow.Author.Rules.{rules}
 use mathlib.Core.Path.{sym, ◌∙◌}
 use borrow.Author.Tests.{not-true, not-false}
 use Rattle.steady.proofs.Laws.Promise.{after_none, after_list}

@@ -1,5 +1,5 @@
 -- `tag::same_tag` meets its contract. Bytes are compared from the back: what stands from i on is the same. `Laws/Steps.antt`. Assumes nothing.
-use Prim.Native.Nat.{◌≤◌, ◌-◌, min}
+use Prim.Native.Nat.{◌-◌, min}
 use mathlib.Core.Path.{◌≡◌, sym, ap, subst, ◌∙◌}
 use native.Mathlib.Omega.{arith}
 use borrow.Author.Rules.{rules}

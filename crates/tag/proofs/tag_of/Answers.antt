@@ -1,9 +1,7 @@
 -- `tag::tag_of` meets its contract. The first j bytes are copied, and the others are 0: `Laws/View.antt`. Assumes nothing.
-use Prim.Native.Nat.{◌≤◌, ◌-◌, min}
 use mathlib.Core.Path.{◌≡◌, refl}
 use native.Mathlib.Omega.{arith}
 use borrow.Author.Rules.{rules}
-use lib.ListN.{length, take, drop, replicate}
 use Rattle.tag.proofs.Laws.View.{byte_stored, rest_zero, made}
 use Rattle.tag.proofs.tag_of.Goals as goal
 

@@ -1,8 +1,6 @@
 -- `unwiring::remove_input` meets its contract. Assumes nothing.
 use native.Mathlib.Omega.{arith}
-use borrow.Author.Rules.{rules}
 use mathlib.Core.Path.{sym, ◌∙◌}
-use borrow.Author.Tests.{not-true, not-false}
 use Rattle.held.proofs.Laws.Rows.{no_list}
 use Rattle.edit.proofs.Laws.Step.{meets_7}
 use Rattle.unwiring.proofs.Laws.Unwiring.{remove_1, remove_12, remove_3, remove-done}

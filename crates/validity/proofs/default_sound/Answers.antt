@@ -1,6 +1,5 @@
 -- `validity::default_sound` meets its contract: `Laws/Passes.antt`. Assumes nothing.
 use native.Mathlib.Omega.{arith}
-use borrow.Author.Rules.{rules}
 use mathlib.Core.Path.{sym, ◌∙◌}
 use Rattle.model.specs.View.{components_of}
 use Rattle.validity.proofs.Laws.Passes.{default_none, default-long, default-found, default-missing}

@@ -1,11 +1,9 @@
 -- `validity::is_valid` meets its contract: `Laws/Passes.antt`. Assumes nothing.
 use mathlib.Core.Path.{◌≡◌, sym, ◌∙◌}
 use mathlib.Core.Bool.{true, false, and-true}
-use borrow.Author.Rules.{rules}
-use borrow.Author.Tests.{le-leb, lt-leb, not-true, not-false}
+use borrow.Author.Tests.{le-leb, lt-leb}
 use native.Mathlib.Omega.{arith}
 use lib.Dec.{leb}
-use Rattle.model.specs.declared.implicit_model.Model.{Model as Record}
 use Rattle.model.specs.Table.{distinct}
 use Rattle.model.specs.View.{rows, every, components_of, lists_of}
 use Rattle.sound_lists.specs.Sound.{list_sound}

@@ -1,6 +1,5 @@
 -- `walking::joined` meets its contract. Assumes nothing.
 use native.Mathlib.Omega.{arith}
-use borrow.Author.Rules.{rules}
 use mathlib.Core.Path.{refl}
 use Prim.Native.Nat.{◌<◌}
 use Rattle.walking.specs.Walking.{absent, again, joins}

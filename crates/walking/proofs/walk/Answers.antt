@@ -1,16 +1,14 @@
 -- `walking::walk` meets its contract. Assumes nothing.
 use native.Mathlib.Omega.{arith}
-use borrow.Author.Rules.{rules}
-use mathlib.Core.Path.{◌≡◌, refl, sym, ap, subst}
-use Prim.Native.Nat.{◌≤◌, ◌<◌, ◌-◌}
+use mathlib.Core.Path.{refl, sym, ap, subst}
+use Prim.Native.Nat.{◌<◌}
 use lib.ListN.{get_or}
 use borrow.Author.Tests.{not-true, not-false}
 use Rattle.model.specs.View.{rows}
 use Rattle.walking.specs.declared.Line.{Line}
-use Rattle.walking.specs.declared.Ended.TheVariants.{Clear}
-use Rattle.walking.specs.Walking.{Sound, Walkable}
+use Rattle.walking.specs.Walking.{Sound}
 use Rattle.walking.proofs.Laws.Sound.{sound-start}
-use Rattle.walking.proofs.Laws.Line.{Going, Scanning, going_start, going_end, ended_clear, ended_met, ended_gap, first_met, first_scan, scanning_end, scanning_gap, scanning_next, counted_few}
+use Rattle.walking.proofs.Laws.Line.{Going, going_start, going_end, ended_clear, ended_met, ended_gap, first_met, first_scan, scanning_end, scanning_gap, scanning_next, counted_few}
 use Rattle.walking.proofs.walk.Goals as goal
 
 pub start-line-requires : goal.start-line-requires

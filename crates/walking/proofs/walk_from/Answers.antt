@@ -1,5 +1,4 @@
 -- `walking::walk_from` meets its contract. Assumes nothing.
-use borrow.Author.Rules.{rules}
 use Rattle.edit.proofs.Laws.Tests.{missing}
 use Rattle.walking.proofs.Laws.Line.{sought_row, wires-absent, wires_row}
 use Rattle.walking.proofs.walk_from.Goals as goal

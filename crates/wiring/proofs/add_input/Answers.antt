@@ -1,7 +1,5 @@
 -- `wiring::add_input` meets its contract. Assumes nothing.
-use borrow.Author.Rules.{rules}
 use mathlib.Core.Path.{sym, ◌∙◌}
-use borrow.Author.Tests.{not-true, not-false}
 use Rattle.edit.proofs.Laws.Step.{meets_7}
 use Rattle.wiring.proofs.Laws.Wiring.{add_1, add_1_source, add_12, add_12_source, add-held, add-wired}
 use Rattle.wiring.proofs.add_input.Goals as goal

@@ -1,6 +1,5 @@
 -- `wiring::wire` meets its contract. Assumes nothing.
 use native.Mathlib.Omega.{arith}
-use borrow.Author.Rules.{rules}
 use Rattle.held.proofs.Laws.Rows.{no_list}
 use Rattle.walking.proofs.Laws.Line.{sought_row}
 use Rattle.wiring.proofs.Laws.Wiring.{wire_12, wire_3, wire_14, wire_13, wire-done, gap_below}

@@ -1,5 +1,4 @@
 -- `dw_remove_input` meets its contract. Assumes nothing.
-use borrow.Author.Rules.{rules}
 use Rattle.direct_words.proofs.Laws.Direct.{taken-done, not_taken}
 use Rattle.wiring_calls.proofs.dw_remove_input.Goals as goal
 

@@ -1,5 +1,4 @@
 -- `add_operation_with` meets its contract. Assumes nothing.
-use borrow.Author.Rules.{rules}
 use Rattle.word_edits.proofs.Laws.Words.{with_none, with_some, meets_as}
 use Rattle.word_edits.proofs.add_operation_with.Goals as goal
 

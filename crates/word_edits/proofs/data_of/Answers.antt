@@ -1,5 +1,4 @@
 -- `data_of` meets its contract. Assumes nothing.
-use borrow.Author.Rules.{rules}
 use mathlib.Core.Path.{sym, ap, ◌∙◌}
 use Rattle.component_layout.specs.Components.{data_read}
 use Rattle.word_edits.proofs.Laws.Words.{data-some, data-none}

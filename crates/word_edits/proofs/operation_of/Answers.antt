@@ -1,5 +1,4 @@
 -- `operation_of` meets its contract. Assumes nothing.
-use borrow.Author.Rules.{rules}
 use mathlib.Core.Path.{sym, ap, ◌∙◌}
 use Rattle.component_layout.specs.Components.{component_read}
 use Rattle.word_edits.proofs.Laws.Words.{operation_some, operation_none}

@@ -1,5 +1,4 @@
 -- `dw_evaluate_at` meets its contract. Assumes nothing.
-use borrow.Author.Rules.{rules}
 use Rattle.asking.proofs.Laws.Form.{point_as}
 use Rattle.asking.proofs.form.dw_evaluate_at.Goals as goal
 

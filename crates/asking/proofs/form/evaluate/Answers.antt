@@ -1,5 +1,4 @@
 -- `asking::form::evaluate` meets its contract. Assumes nothing.
-use borrow.Author.Rules.{rules}
 use Rattle.asking.proofs.Laws.Form.{evaluate_direct}
 use Rattle.asking.proofs.form.evaluate.Goals as goal
 

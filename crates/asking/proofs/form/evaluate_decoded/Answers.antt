@@ -1,5 +1,4 @@
 -- `asking::form::evaluate_decoded` meets its contract. Assumes nothing.
-use borrow.Author.Rules.{rules}
 use borrow.Author.Tests.{not-true, not-false}
 use Rattle.asking.proofs.Laws.Form.{evaluate_7, evaluate_done}
 use Rattle.asking.proofs.form.evaluate_decoded.Goals as goal

@@ -1,5 +1,4 @@
 -- `dw_rename_component` meets its contract. Assumes nothing.
-use borrow.Author.Rules.{rules}
 use Rattle.direct_words.proofs.Laws.Direct.{taken_made, not_taken}
 use Rattle.calls.proofs.edits.dw_rename_component.Goals as goal
 

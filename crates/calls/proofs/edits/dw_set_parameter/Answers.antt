@@ -1,6 +1,5 @@
 -- `dw_set_parameter` meets its contract. Assumes nothing.
 use mathlib.Core.Path.{ap}
-use borrow.Author.Rules.{rules}
 use Rattle.model.specs.Edit.{set_parameter}
 use Rattle.direct_words.proofs.Laws.Direct.{takes_as, taken-done, not_taken}
 use Rattle.calls.proofs.edits.dw_set_parameter.Goals as goal

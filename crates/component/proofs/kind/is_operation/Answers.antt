@@ -1,7 +1,6 @@
 -- `component::kind::is_operation` meets its contract. Assumes nothing.
 use mathlib.Core.Path.{ap}
 use lib.Dec.{ltb}
-use borrow.Author.Rules.{rules}
 use Rattle.component.proofs.kind.is_operation.Goals as goal
 
 pub returns : goal.returns

@@ -1,5 +1,4 @@
 -- `component::model_component::compute` meets its contract: each arm is the definition at its kind. Assumes nothing.
-use borrow.Author.Rules.{rules}
 use Rattle.component.specs.Value.{compute}
 use Rattle.component.proofs.model_component.compute.Goals as goal
 

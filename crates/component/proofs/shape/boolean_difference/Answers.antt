@@ -1,5 +1,4 @@
 -- `component::shape::boolean_difference` meets its contract. Assumes nothing.
-use borrow.Author.Rules.{rules}
 use Rattle.component.proofs.shape.boolean_difference.Goals as goal
 
 pub returns : goal.returns

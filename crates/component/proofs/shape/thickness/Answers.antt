@@ -1,5 +1,4 @@
 -- `component::shape::thickness` meets its contract. Assumes nothing.
-use borrow.Author.Rules.{rules}
 use Rattle.component.proofs.Numbers.{two_bits}
 use Rattle.component.proofs.shape.thickness.Goals as goal
 

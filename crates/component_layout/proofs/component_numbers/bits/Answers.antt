@@ -1,6 +1,5 @@
 -- `bits` meets its contract. Assumes nothing.
 use mathlib.Core.Path.{sym, ap, subst, ◌∙◌}
-use borrow.Author.Rules.{rules}
 use lib.Dec.{T}
 use lib.Ieee.{binary64, of_bits}
 use lib.Ieee.Bits.{of_bits-to_bits}

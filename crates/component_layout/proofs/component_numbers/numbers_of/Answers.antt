@@ -1,6 +1,5 @@
 -- `numbers_of` meets its contract. Assumes nothing.
 use mathlib.Core.Path.{sym, ap, ◌∙◌}
-use borrow.Author.Rules.{rules}
 use Rattle.component_layout.specs.Numbers.{numbers_of}
 use Rattle.component_layout.proofs.component_numbers.numbers_of.Goals as goal
 

@@ -1,5 +1,4 @@
 -- `words_of` meets its contract. Assumes nothing.
-use borrow.Author.Rules.{rules}
 use Rattle.component_layout.proofs.Numbers.{worded}
 use Rattle.component_layout.proofs.component_numbers.words_of.Goals as goal
 

@@ -1,5 +1,4 @@
 -- `component_from` meets its contract. Assumes nothing.
-use borrow.Author.Rules.{rules}
 use Rattle.component_layout.specs.Components.{component_from}
 use Rattle.component_layout.proofs.component_words.component_from.Goals as goal
 

@@ -1,6 +1,5 @@
 -- `component_of` meets its contract. Assumes nothing.
 use native.Mathlib.Omega.{arith}
-use borrow.Author.Rules.{rules}
 use Rattle.component_layout.specs.Components.{component_of}
 use mathlib.Core.Path.{sym}
 use Rattle.component_layout.specs.Components.{component_of}

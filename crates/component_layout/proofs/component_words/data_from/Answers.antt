@@ -1,6 +1,5 @@
 -- `data_from` meets its contract. Assumes nothing.
 use native.Mathlib.Omega.{arith}
-use borrow.Author.Rules.{rules}
 use Rattle.component_layout.specs.Components.{data_from}
 use mathlib.Core.Path.{sym}
 use Rattle.component_layout.specs.Components.{data_from}

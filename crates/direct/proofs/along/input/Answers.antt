@@ -1,5 +1,4 @@
 -- `input` meets its contract. Assumes nothing.
-use borrow.Author.Rules.{rules}
 use borrow.Author.Tests.{lt-ltb, le-ltb}
 use lib.Ieee.{div, of_bits, of_fields, odd}
 use Rattle.direct.proofs.along.input.Goals as goal

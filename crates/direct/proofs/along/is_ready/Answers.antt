@@ -1,8 +1,6 @@
 -- `is_ready` meets its contract. Assumes nothing.
-use borrow.Author.Tests.{not-false}
 use Rattle.finding.proofs.Laws.Loops.{no_yes}
 use native.Mathlib.Omega.{arith}
-use borrow.Author.Rules.{rules}
 use Rattle.direct.proofs.along.is_ready.Goals as goal
 
 pub returns-then-n-x : goal.returns-then-n-x

@@ -1,7 +1,6 @@
 -- `is_served` meets its contract. Assumes nothing.
 use mathlib.Core.Logic.{inl, inr}
 use borrow.Author.Tests.{eqb-true}
-use borrow.Author.Rules.{rules}
 use Rattle.direct.proofs.along.is_served.Goals as goal
 
 pub returns-then-i-lt64 : goal.returns-then-i-lt64

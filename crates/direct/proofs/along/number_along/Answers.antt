@@ -1,10 +1,9 @@
 -- `number_along` meets its contract. Assumes nothing.
-use Prim.Native.Nat.{◌-◌, ◌≤◌}
-use mathlib.Core.Path.{◌≡◌, refl}
-use lib.ListN.{length, length-set}
+use mathlib.Core.Path.{refl}
+use lib.ListN.{length-set}
 use borrow.Author.Tests.{not-false, eqb-true}
 use Rattle.finding.proofs.Laws.Loops.{no_yes}
-use Rattle.direct.proofs.Laws.Numbers.{Done, none_done, done_more}
+use Rattle.direct.proofs.Laws.Numbers.{none_done, done_more}
 use native.Mathlib.Omega.{arith}
 use Rattle.direct.proofs.along.number_along.Goals as goal
 

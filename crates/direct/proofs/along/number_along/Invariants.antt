@@ -1,11 +1,8 @@
 -- `number_along` meets its contract. Assumes nothing.
 use Prim.Native.Nat.{◌-◌, ◌≤◌}
-use mathlib.Core.Path.{◌≡◌, refl}
-use lib.ListN.{length, length-set}
-use borrow.Author.Tests.{not-false, eqb-true}
-use Rattle.finding.proofs.Laws.Loops.{no_yes}
-use Rattle.direct.proofs.Laws.Numbers.{Done, none_done, done_more}
-use native.Mathlib.Omega.{arith}
+use mathlib.Core.Path.{◌≡◌}
+use lib.ListN.{length}
+use Rattle.direct.proofs.Laws.Numbers.{Done}
 use Rattle.direct.proofs.along.number_along.Given as goal
 
 abbrev pub invariant-loop-k : goal.invariant-loop-k

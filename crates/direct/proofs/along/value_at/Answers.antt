@@ -5,7 +5,6 @@ use Rattle.component_layout.specs.Components.{component_read}
 use Rattle.finding.proofs.Laws.Loops.{no_yes}
 use Rattle.direct.proofs.Laws.Numbers.{three}
 use native.Mathlib.Omega.{arith}
-use borrow.Author.Rules.{rules}
 use Rattle.direct.proofs.along.value_at.Goals as goal
 
 pub returns-in_default : goal.returns-in_default

@@ -1,10 +1,8 @@
 -- `is_clear` meets its contract. Assumes nothing.
-use Prim.Native.Nat.{◌-◌, ◌≤◌}
-use borrow.Author.Tests.{not-false, eqb-true}
+use borrow.Author.Tests.{eqb-true}
 use Rattle.finding.proofs.Laws.Loops.{no_yes}
-use Rattle.direct.proofs.Laws.Clear.{Closed, closed_none, closed-more, walk_is_clear}
+use Rattle.direct.proofs.Laws.Clear.{closed_none, closed-more, walk_is_clear}
 use native.Mathlib.Omega.{arith}
-use borrow.Author.Rules.{rules}
 use Rattle.direct.proofs.clear.is_clear.Goals as goal
 
 pub returns-then-n-gt64 : goal.returns-then-n-gt64

@@ -1,10 +1,6 @@
 -- `is_clear` meets its contract. Assumes nothing.
 use Prim.Native.Nat.{◌-◌, ◌≤◌}
-use borrow.Author.Tests.{not-false, eqb-true}
-use Rattle.finding.proofs.Laws.Loops.{no_yes}
-use Rattle.direct.proofs.Laws.Clear.{Closed, closed_none, closed-more, walk_is_clear}
-use native.Mathlib.Omega.{arith}
-use borrow.Author.Rules.{rules}
+use Rattle.direct.proofs.Laws.Clear.{Closed}
 use Rattle.direct.proofs.clear.is_clear.Given as goal
 
 abbrev pub invariant-loop-k : goal.invariant-loop-k

@@ -3,7 +3,6 @@ use borrow.Author.Tests.{not-false}
 use Rattle.finding.proofs.Laws.Loops.{no_yes}
 use Rattle.direct.proofs.Laws.Answer.{answered}
 use native.Mathlib.Omega.{arith}
-use borrow.Author.Rules.{rules}
 use Rattle.direct.proofs.evaluate.evaluate_in.Goals as goal
 
 pub returns-then-not-standing : goal.returns-then-not-standing

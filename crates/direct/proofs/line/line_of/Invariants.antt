@@ -1,8 +1,7 @@
 -- `line_of` meets its contract. Assumes nothing.
 use Prim.Native.Nat.{◌-◌, ◌≤◌, ◌<◌}
-use mathlib.Core.Path.{◌≡◌, refl}
-use lib.ListN.{length, length-set}
-use native.Mathlib.Omega.{arith}
+use mathlib.Core.Path.{◌≡◌}
+use lib.ListN.{length}
 use Rattle.direct.proofs.line.line_of.Given as goal
 
 abbrev pub invariant-loop-turns : goal.invariant-loop-turns

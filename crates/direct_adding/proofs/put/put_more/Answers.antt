@@ -1,6 +1,5 @@
 -- `direct_adding::put::put_more` meets its contract. Assumes nothing.
 use native.Mathlib.Omega.{arith}
-use borrow.Author.Rules.{rules}
 use Rattle.direct_adding.proofs.Laws.Written.{more-written}
 use Rattle.direct_adding.proofs.put.put_more.Goals as goal
 

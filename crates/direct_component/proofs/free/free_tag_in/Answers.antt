@@ -1,10 +1,7 @@
 -- `direct_component::free::free_tag_in` meets its contract. Assumes nothing.
 use native.Mathlib.Omega.{arith}
-use borrow.Author.Rules.{rules}
-use Prim.Native.Nat.{◌+◌, ◌≤◌}
-use Rattle.tag.specs.View.{bytes_of}
 use borrow.Author.Tests.{not-true, not-false}
-use Rattle.direct_component.proofs.Laws.Free.{TryingIn, at_once, start, nowhere, too_long, here, next}
+use Rattle.direct_component.proofs.Laws.Free.{at_once, start, nowhere, too_long, here, next}
 use Rattle.direct_component.proofs.free.free_tag_in.Goals as goal
 
 pub returns-then-is_free : goal.returns-then-is_free

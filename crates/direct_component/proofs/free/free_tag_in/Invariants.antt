@@ -1,10 +1,7 @@
 -- `direct_component::free::free_tag_in` meets its contract. Assumes nothing.
-use native.Mathlib.Omega.{arith}
-use borrow.Author.Rules.{rules}
 use Prim.Native.Nat.{◌+◌, ◌≤◌}
 use Rattle.tag.specs.View.{bytes_of}
-use borrow.Author.Tests.{not-true, not-false}
-use Rattle.direct_component.proofs.Laws.Free.{TryingIn, at_once, start, nowhere, too_long, here, next}
+use Rattle.direct_component.proofs.Laws.Free.{TryingIn}
 use Rattle.direct_component.proofs.free.free_tag_in.Given as goal
 
 abbrev pub invariant-loop-left : goal.invariant-loop-left

@@ -1,5 +1,4 @@
 -- `direct_operation::put::put_row` meets its contract. Assumes nothing.
-use borrow.Author.Rules.{rules}
 use Rattle.direct_operation.proofs.Laws.Written.{row_over, row_next}
 use Rattle.direct_operation.proofs.put.put_row.Goals as goal
 

@@ -1,7 +1,6 @@
 -- `put_entry` meets its contract. Assumes nothing.
 use Rattle.direct_rows.proofs.Laws.Put.{entry-narrow, entry_past, entry-put}
 use native.Mathlib.Omega.{arith}
-use borrow.Author.Rules.{rules}
 use Rattle.direct_rows.proofs.put.put_entry.Goals as goal
 
 pub returns-then-s-ne27200 : goal.returns-then-s-ne27200

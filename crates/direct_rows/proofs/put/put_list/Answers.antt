@@ -1,7 +1,6 @@
 -- `put_list` meets its contract. Assumes nothing.
 use Rattle.direct_rows.proofs.Laws.Put.{list-narrow, list-past, list-many, list_put}
 use native.Mathlib.Omega.{arith}
-use borrow.Author.Rules.{rules}
 use Rattle.direct_rows.proofs.put.put_list.Goals as goal
 
 pub returns-then-s-ne27200 : goal.returns-then-s-ne27200

@@ -1,7 +1,6 @@
 -- `put_place` meets its contract. Assumes nothing.
 use Rattle.direct_rows.proofs.Laws.Put.{place-narrow, place-past, place-many, place-put}
 use native.Mathlib.Omega.{arith}
-use borrow.Author.Rules.{rules}
 use Rattle.direct_rows.proofs.put.put_place.Goals as goal
 
 pub returns-then-s-ne27200 : goal.returns-then-s-ne27200

@@ -1,5 +1,5 @@
 -- `distances::text::millionths` casts only what the two tests let pass. Assumes nothing.
-use Rattle.std.proofs.Common.{T, sym, subst, rules}
+use Rattle.std.proofs.Common.{T, sym, subst}
 use lib.Ieee.{of_bits, neg}
 use Rattle.distances.proofs.text.millionths.Goals as goal
 

@@ -1,5 +1,5 @@
 -- `distances::text::print_word` ends: the width grows to the column's. Assumes nothing.
-use Rattle.std.proofs.Common.{◌-◌, rules}
+use Rattle.std.proofs.Common.{◌-◌}
 use Rattle.distances.proofs.text.print_word.Given as goal
 
 abbrev pub invariant-loop-width : goal.invariant-loop-width

@@ -1,7 +1,6 @@
 -- `edit::rows::with_entry` meets its contract: past the table's end nothing is stored. Assumes nothing.
-use borrow.Author.Rules.{rules}
 use mathlib.Core.Path.{◌≡◌, sym}
-use lib.ListN.{length, length-map}
+use lib.ListN.{length}
 use lib.Seq.{set_out}
 use native.Mathlib.Omega.{arith}
 use Rattle.edit.proofs.rows.with_entry.Goals as goal

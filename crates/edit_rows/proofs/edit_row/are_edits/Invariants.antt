@@ -1,12 +1,8 @@
 -- `are_edits` meets its contract. Assumes nothing.
-use native.Mathlib.Omega.{arith}
-use borrow.Author.Rules.{rules}
 use Prim.Native.Nat.{◌*◌, ◌-◌, ◌≤◌}
-use mathlib.Core.Path.{◌≡◌, sym, ap, ◌∙◌}
-use borrow.Author.Tests.{not-true, not-false}
+use mathlib.Core.Path.{◌≡◌}
 use Rattle.layout.specs.Some.{is_some}
 use Rattle.edit_rows.specs.EditRows.{rows_at, edits_of}
-use Rattle.edit_rows.proofs.Laws.{rows_no, rows_yes, rows_start, rows_end, edits_part}
 use Rattle.edit_rows.proofs.edit_row.are_edits.Given as goal
 
 abbrev pub invariant-loop-i : goal.invariant-loop-i

@@ -1,5 +1,4 @@
 -- `component_at` meets its contract. Assumes nothing.
-use borrow.Author.Rules.{rules}
 use Rattle.edit_rows.specs.EditRows.{component_at}
 use Rattle.edit_rows.proofs.edit_row.component_at.Goals as goal
 

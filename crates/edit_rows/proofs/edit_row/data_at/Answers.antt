@@ -1,5 +1,4 @@
 -- `data_at` meets its contract. Assumes nothing.
-use borrow.Author.Rules.{rules}
 use Rattle.edit_rows.specs.EditRows.{data_at}
 use Rattle.edit_rows.proofs.edit_row.data_at.Goals as goal
 

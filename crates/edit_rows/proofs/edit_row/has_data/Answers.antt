@@ -1,5 +1,4 @@
 -- `has_data` meets its contract. Assumes nothing.
-use borrow.Author.Rules.{rules}
 use mathlib.Core.Path.{sym, ap, ◌∙◌}
 use Rattle.component_layout.specs.Components.{data_read}
 use Rattle.layout.specs.Some.{is_some}

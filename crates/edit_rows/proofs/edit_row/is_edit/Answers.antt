@@ -1,5 +1,4 @@
 -- `is_edit` meets its contract. Assumes nothing.
-use borrow.Author.Rules.{rules}
 use mathlib.Core.Path.{sym, ap, ◌∙◌}
 use borrow.Author.Tests.{not-true, not-false}
 use Rattle.layout.specs.Some.{is_some}

@@ -1,5 +1,4 @@
 -- `texts_fit` meets its contract. Assumes nothing.
-use borrow.Author.Rules.{rules}
 use borrow.Author.Tests.{lt-leb, le-leb}
 use Rattle.edit_rows.specs.EditRows.{texts_fit}
 use Rattle.edit_rows.proofs.edit_row.texts_fit.Goals as goal

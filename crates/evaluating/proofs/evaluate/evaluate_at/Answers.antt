@@ -1,5 +1,4 @@
 -- `evaluating::evaluate::evaluate_at` meets its contract: `Laws/Along.antt`. Assumes nothing.
-use borrow.Author.Rules.{rules}
 use mathlib.Core.Path.{ap, ◌∙◌}
 use Rattle.evaluating.specs.Evaluate.{error_of, point_of}
 use Rattle.evaluating.proofs.Laws.Along.{replies, hands_on}

@@ -1,5 +1,4 @@
 -- `bits_of` meets its contract: the pattern that `to_bits` writes for a NaN is the one that the code gives. Assumes nothing.
-use borrow.Author.Rules.{rules}
 use mathlib.Core.Path.{sym, ap, ◌∙◌}
 use lib.Ieee.{binary64, to_bits}
 use Rattle.float.proofs.Theorems.Nan.{no_nan, is-nan, nan-bits}

@@ -1,5 +1,4 @@
 -- `float_of` meets its contract: a pattern is a NaN's where, without its sign, it lies above infinity's. Assumes nothing.
-use borrow.Author.Rules.{rules}
 use mathlib.Core.Path.{sym}
 use lib.Ieee.{div, of_bits, of_fields, odd}
 use Rattle.float.proofs.Theorems.Nan.{pattern_nan, pattern_no_nan}

@@ -1,8 +1,6 @@
 -- `float::root::digits` meets its contract. The invariant is `Digit` of `Laws/Digit.antt`, the measure the turns left. Assumes nothing.
-use mathlib.Core.Logic.{⊎_elim}
 use native.Mathlib.Omega.{arith}
-use Rattle.float.proofs.Laws.Digit.{Digit, start, root_lt, rem_lt, step_no, step_yes, ends_up, ends_down}
-use Prim.Native.Nat.{◌-◌}
+use Rattle.float.proofs.Laws.Digit.{start, root_lt, rem_lt, step_no, step_yes, ends_up, ends_down}
 use Rattle.float.proofs.root.digits.Goals as goal
 use Rattle.float.proofs.root.digits.Goals.{then-more-trial, else-more-trial}
 

@@ -1,7 +1,5 @@
 -- `float::root::digits` meets its contract. The invariant is `Digit` of `Laws/Digit.antt`, the measure the turns left. Assumes nothing.
-use mathlib.Core.Logic.{⊎_elim}
-use native.Mathlib.Omega.{arith}
-use Rattle.float.proofs.Laws.Digit.{Digit, start, root_lt, rem_lt, step_no, step_yes, ends_up, ends_down}
+use Rattle.float.proofs.Laws.Digit.{Digit}
 use Prim.Native.Nat.{◌-◌}
 use Rattle.float.proofs.root.digits.Given as goal
 

@@ -2,7 +2,6 @@
 use mathlib.Core.Path.{subst}
 use Prim.Native.Nat.{ℕ, ◌<◌}
 use native.Mathlib.Omega.{arith}
-use borrow.Author.Rules.{rules}
 use Rattle.float.specs.Pattern.{RootPattern}
 use Rattle.float.proofs.Laws.Normal.{z_ge, z_le, low_ge, low_lt, low_same, high_same}
 use Rattle.float.proofs.root.pattern.Goals as goal

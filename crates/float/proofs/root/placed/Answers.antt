@@ -1,6 +1,5 @@
 -- `float::root::placed` meets its contract: `Laws/Even.antt`. Assumes nothing.
 use native.Mathlib.Omega.{arith}
-use borrow.Author.Rules.{rules}
 use Rattle.float.proofs.Laws.Even.{a_ge, a_le, is_root, r_lt}
 use Rattle.float.proofs.root.placed.Goals as goal
 

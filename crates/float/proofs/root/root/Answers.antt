@@ -2,7 +2,6 @@
 use mathlib.Core.Path.{◌≡◌, refl, sym, ap, ◌∙◌, subst}
 use Prim.Native.Nat.{ℕ}
 use native.Mathlib.Omega.{arith}
-use borrow.Author.Rules.{rules}
 use lib.Dec.{T}
 use lib.Ieee.{Float, nan, binary64, fits, of_bits, to_bits}
 use lib.Ieee.Fits.{nan-fits}

@@ -1,6 +1,5 @@
 -- `lines::fed` is safe and ends: the loop's measure is what is left of the bytes. Assumes nothing.
 use Prim.Native.Nat.{◌-◌}
-use native.Mathlib.Omega.{arith}
 use lib.ListN.{length}
 use Rattle.float_rows.proofs.lines.fed.Given as goal
 

@@ -1,5 +1,4 @@
 -- `graph::computation_graph::compile` meets its contract: `Laws/Answer.antt`. Assumes nothing.
-use borrow.Author.Rules.{rules}
 use mathlib.Core.Path.{◌≡◌, sym, ap, subst, ◌∙◌}
 use mathlib.Core.Bool.{true, false}
 use borrow.Author.Tests.{not-true, not-false}

@@ -1,8 +1,8 @@
 -- `graph::computation_graph::component_inputs` meets its contract. Assumes nothing.
 use native.Mathlib.Omega.{arith}
-use Prim.Native.Nat.{ℕ, ◌≤◌, ◌-◌}
+use Prim.Native.Nat.{ℕ}
 use mathlib.Core.Path.{◌≡◌, refl, subst}
-use lib.ListN.{length, take, length-set, length-replicate}
+use lib.ListN.{take, length-set, length-replicate}
 use Rattle.tag.proofs.Laws.View.{byte_stored}
 use Rattle.graph.proofs.computation_graph.component_inputs.Goals as goal
 

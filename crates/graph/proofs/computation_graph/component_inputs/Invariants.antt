@@ -1,9 +1,7 @@
 -- `graph::computation_graph::component_inputs` meets its contract. Assumes nothing.
-use native.Mathlib.Omega.{arith}
-use Prim.Native.Nat.{ℕ, ◌≤◌, ◌-◌}
-use mathlib.Core.Path.{◌≡◌, refl, subst}
-use lib.ListN.{length, take, length-set, length-replicate}
-use Rattle.tag.proofs.Laws.View.{byte_stored}
+use Prim.Native.Nat.{◌≤◌, ◌-◌}
+use mathlib.Core.Path.{◌≡◌}
+use lib.ListN.{length, take}
 use Rattle.graph.proofs.computation_graph.component_inputs.Given as goal
 
 abbrev pub invariant-loop-i : goal.invariant-loop-i

@@ -1,8 +1,7 @@
 -- `graph::computation_graph::ordered` meets its contract: `Laws/Answer.antt`, `Laws/Drawing.antt`. Assumes nothing.
-use borrow.Author.Rules.{rules}
 use Prim.Native.Nat.{◌≤◌, ◌<◌}
 use mathlib.Core.Path.{◌≡◌, subst}
-use lib.ListN.{length, length-map}
+use lib.ListN.{length}
 use borrow.Author.Tests.{not-true, not-false}
 use Rattle.tag.specs.View.{bytes_of}
 use Rattle.model.specs.declared.model_error.ModelError.TheVariants.{MissingTag, CyclicDependency}

@@ -1,8 +1,7 @@
 -- `graph::computation_graph::placed_if_full` meets its contract: `Laws/Answer.antt`. Assumes nothing.
-use borrow.Author.Rules.{rules}
 use mathlib.Core.Path.{◌≡◌}
 use mathlib.Core.Bool.{false}
-use lib.ListN.{length, length-map}
+use lib.ListN.{length}
 use Rattle.graph.proofs.Laws.Answer.{formed_absent, formed_gapped, formed_full}
 use Rattle.graph.proofs.computation_graph.placed_if_full.Goals as goal
 

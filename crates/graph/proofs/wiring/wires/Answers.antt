@@ -1,6 +1,6 @@
 -- `graph::wiring::wires` meets its contract: `Laws/Drawing.antt`. Assumes nothing.
 use native.Mathlib.Omega.{arith}
-use Prim.Native.Nat.{◌*◌, ◌<◌, ◌≤◌, ◌-◌}
+use Prim.Native.Nat.{◌*◌, ◌<◌}
 use lib.ListN.{get_or}
 use mathlib.Core.Path.{◌≡◌, subst}
 use Rattle.graph.specs.Wiring.{Wired}

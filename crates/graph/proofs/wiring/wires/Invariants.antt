@@ -1,10 +1,6 @@
 -- `graph::wiring::wires` meets its contract: `Laws/Drawing.antt`. Assumes nothing.
-use native.Mathlib.Omega.{arith}
-use Prim.Native.Nat.{◌*◌, ◌<◌, ◌≤◌, ◌-◌}
-use lib.ListN.{get_or}
-use mathlib.Core.Path.{◌≡◌, subst}
+use Prim.Native.Nat.{◌≤◌, ◌-◌}
 use Rattle.graph.specs.Wiring.{Wired}
-use Rattle.graph.proofs.Laws.Drawing.{wired-start, wired-more}
 use Rattle.graph.proofs.wiring.wires.Given as goal
 
 abbrev pub invariant-loop-l : goal.invariant-loop-l

@@ -1,6 +1,4 @@
 -- `held::find::components_held` meets its contract. Assumes nothing.
-use borrow.Author.Rules.{rules}
-use lib.ListN.{length-map}
 use Rattle.model.specs.View.{component_of}
 use Rattle.held.proofs.Laws.Rows.{rows-live}
 use Rattle.held.proofs.find.components_held.Goals as goal

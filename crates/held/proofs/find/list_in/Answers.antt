@@ -1,9 +1,8 @@
 -- `held::find::list_in` meets its contract: a row is passed by `Laws/Search.antt`. Assumes nothing.
-use Prim.Native.Nat.{◌≤◌, ◌-◌}
 use mathlib.Core.Path.{◌≡◌, refl, sym, ◌∙◌}
 use native.Mathlib.Omega.{arith}
 use borrow.Author.Rules.{rules}
-use lib.ListN.{drop, length, length-map}
+use lib.ListN.{length}
 use Rattle.tag.specs.View.{bytes_of}
 use Rattle.held.specs.declared.find.Found.{Found}
 use Rattle.model.specs.View.{list_of, rows}

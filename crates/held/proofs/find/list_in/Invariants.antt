@@ -1,15 +1,10 @@
 -- `held::find::list_in` meets its contract: a row is passed by `Laws/Search.antt`. Assumes nothing.
 use Prim.Native.Nat.{◌≤◌, ◌-◌}
-use mathlib.Core.Path.{◌≡◌, refl, sym, ◌∙◌}
-use native.Mathlib.Omega.{arith}
-use borrow.Author.Rules.{rules}
-use lib.ListN.{drop, length, length-map}
+use mathlib.Core.Path.{◌≡◌}
+use lib.ListN.{drop, length}
 use Rattle.tag.specs.View.{bytes_of}
-use Rattle.held.specs.declared.find.Found.{Found}
 use Rattle.model.specs.View.{list_of, rows}
-use Rattle.held.specs.Search.{position, Sought}
-use Rattle.held.proofs.Laws.Rows.{no_list, rows_next, rows-live}
-use Rattle.held.proofs.Laws.Search.{position_hit, position_miss, position_end, sought}
+use Rattle.held.specs.Search.{position}
 use Rattle.held.proofs.find.list_in.Given as goal
 
 abbrev pub invariant-loop-i : goal.invariant-loop-i

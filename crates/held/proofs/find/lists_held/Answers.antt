@@ -1,6 +1,4 @@
 -- `held::find::lists_held` meets its contract. Assumes nothing.
-use borrow.Author.Rules.{rules}
-use lib.ListN.{length-map}
 use Rattle.model.specs.View.{list_of}
 use Rattle.held.proofs.Laws.Rows.{rows-live}
 use Rattle.held.proofs.find.lists_held.Goals as goal

@@ -1,6 +1,4 @@
 -- `held::find::places_held` meets its contract. Assumes nothing.
-use borrow.Author.Rules.{rules}
-use lib.ListN.{length-map}
 use Rattle.model.specs.View.{place_of}
 use Rattle.held.proofs.Laws.Rows.{rows-live}
 use Rattle.held.proofs.find.places_held.Goals as goal

@@ -1,6 +1,5 @@
 -- `held::reading::component_at` meets its contract: `Laws/Reading.antt`. Assumes nothing.
 use native.Mathlib.Omega.{arith}
-use borrow.Author.Rules.{rules}
 use Rattle.held.proofs.Laws.Reading.{entry_at, entry_past}
 use Rattle.held.proofs.reading.component_at.Goals as goal
 

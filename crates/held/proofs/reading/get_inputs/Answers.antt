@@ -1,7 +1,6 @@
 -- `held::reading::get_inputs` meets its contract: `Laws/Reading.antt`. Assumes nothing.
 use mathlib.Core.Path.{sym, ◌∙◌}
 use native.Mathlib.Omega.{arith}
-use borrow.Author.Rules.{rules}
 use Rattle.tag.specs.View.{bytes_of}
 use Rattle.held.proofs.Laws.Reading.{inputs-held, inputs-missing}
 use Rattle.held.proofs.reading.get_inputs.Goals as goal

@@ -1,6 +1,5 @@
 -- `held::reading::list_at` meets its contract: `Laws/Reading.antt`. Assumes nothing.
 use native.Mathlib.Omega.{arith}
-use borrow.Author.Rules.{rules}
 use Rattle.held.proofs.Laws.Reading.{list_at, list-past}
 use Rattle.held.proofs.reading.list_at.Goals as goal
 

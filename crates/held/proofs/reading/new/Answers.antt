@@ -1,6 +1,5 @@
 -- `held::reading::new` meets its contract: `Laws/Reading.antt`. Assumes nothing.
 use mathlib.Core.Path.{refl}
-use borrow.Author.Rules.{rules}
 use Rattle.held.proofs.Laws.Reading.{new-record}
 use Rattle.held.proofs.reading.new.Goals as goal
 

@@ -1,5 +1,4 @@
 -- `lacking::least::absent_turn` meets its contract. Assumes nothing.
-use borrow.Author.Rules.{rules}
 use borrow.Author.Tests.{lt-ltb, le-ltb, eq-eqb, ne_eqb}
 use Rattle.lacking.proofs.least.absent_turn.Goals as goal
 

@@ -1,5 +1,4 @@
 -- `lacking::least::gap_turn` meets its contract. Assumes nothing.
-use borrow.Author.Rules.{rules}
 use borrow.Author.Tests.{eq-eqb, ne_eqb}
 use Rattle.lacking.proofs.least.gap_turn.Goals as goal
 

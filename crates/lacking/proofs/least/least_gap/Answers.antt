@@ -1,14 +1,11 @@
 -- `lacking::least::least_gap` meets its contract: `Laws/Drawing.antt`, `Laws/Least.antt`, `Laws/Node.antt`. Assumes nothing.
 use native.Mathlib.Omega.{arith}
-use borrow.Author.Rules.{rules}
-use Prim.Native.Nat.{◌+◌, ◌≤◌, ◌-◌, min}
+use Prim.Native.Nat.{◌+◌, min}
 use mathlib.Core.Path.{◌≡◌, ap, sym, subst}
 use mathlib.Core.Bool.{true}
-use lib.ListN.{length, length-map, get_or}
-use Rattle.model.specs.View.{passes}
+use lib.ListN.{length, get_or}
 use Rattle.held.proofs.Laws.Rows.{no_list}
 use Rattle.held.proofs.Laws.Standing.{standing}
-use Rattle.resolving.specs.Slots.{Resolved}
 use Rattle.lacking.specs.Least.{LeastOf, GapShown}
 use Rattle.resolving.proofs.Laws.Node.{node-within}
 use Rattle.resolving.proofs.Laws.Slots.{small, place, places-short}

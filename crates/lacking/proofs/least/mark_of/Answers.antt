@@ -1,7 +1,5 @@
 -- `lacking::least::mark_of` meets its contract. Assumes nothing.
 use native.Mathlib.Omega.{arith}
-use borrow.Author.Rules.{rules}
-use mathlib.Core.Path.{refl}
 use Rattle.lacking.proofs.least.mark_of.Goals as goal
 
 pub returns-then-x-ge192 : goal.returns-then-x-ge192

@@ -1,5 +1,4 @@
 -- `lacking::least::take_in` meets its contract. Assumes nothing.
-use borrow.Author.Rules.{rules}
 use mathlib.Core.Path.{sym, ◌∙◌}
 use borrow.Author.Tests.{not-true, not-false}
 use Rattle.lacking.specs.Least.{take_in}

@@ -1,6 +1,5 @@
 -- `byte_or_zero` meets its contract. Assumes nothing.
 use native.Mathlib.Omega.{arith}
-use borrow.Author.Rules.{rules}
 use lib.ListN.{get_or-eq_default}
 use mathlib.Core.Path.{sym}
 use lib.ListN.{get_or-eq_default}

@@ -1,6 +1,5 @@
 -- `read_text` meets its contract. Assumes nothing.
 use native.Mathlib.Omega.{arith}
-use borrow.Author.Rules.{rules}
 use Rattle.layout.proofs.Laws.{text-past, text-cut}
 use Rattle.layout.proofs.Laws.{text-past, text-cut, text_whole}
 use Rattle.layout.proofs.words.read_text.Goals as goal

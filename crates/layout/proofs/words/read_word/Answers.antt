@@ -1,5 +1,4 @@
 -- `read_word` meets its contract. Assumes nothing.
-use borrow.Author.Rules.{rules}
 use mathlib.Core.Path.{sym}
 use Rattle.layout.proofs.Laws.{word_past_end}
 use Rattle.layout.proofs.words.read_word.Goals as goal

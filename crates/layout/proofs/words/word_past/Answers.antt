@@ -1,6 +1,5 @@
 -- `word_past` meets its contract. Assumes nothing.
 use native.Mathlib.Omega.{arith}
-use borrow.Author.Rules.{rules}
 use mathlib.Core.Path.{sym}
 use Rattle.layout.proofs.Laws.{word_past_end}
 use Rattle.layout.proofs.words.word_past.Goals as goal

@@ -3,7 +3,6 @@ use Prim.Native.Nat.{ℕ, ◌+◌, ◌/◌}
 use mathlib.Core.Path.{ap, ◌∙◌}
 use mathlib.Core.List.{List}
 use native.Mathlib.Omega.{arith}
-use borrow.Author.Rules.{rules}
 use Rattle.layout.specs.Writing.{bytes4, bytes8, put}
 use Rattle.layout.proofs.Put.{twice, length-bytes4}
 use Rattle.layout.proofs.writing.write_eight.Goals as goal

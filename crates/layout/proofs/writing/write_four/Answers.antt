@@ -3,7 +3,6 @@ use Prim.Native.Nat.{ℕ, ◌+◌, ◌/◌}
 use mathlib.Core.Path.{refl, ap, ◌∙◌}
 use mathlib.Core.List.{List}
 use native.Mathlib.Omega.{arith}
-use borrow.Author.Rules.{rules}
 use Rattle.layout.specs.Writing.{bytes2, bytes4, put}
 use Rattle.layout.proofs.Put.{twice}
 use Rattle.layout.proofs.writing.write_four.Goals as goal

@@ -1,6 +1,5 @@
 -- `write_two` meets its contract. Assumes nothing.
 use native.Mathlib.Omega.{arith}
-use borrow.Author.Rules.{rules}
 use lib.ListN.{length-set}
 use Rattle.layout.proofs.Put.{two_stores}
 use Rattle.layout.proofs.writing.write_two.Goals as goal

@@ -1,7 +1,6 @@
 -- `write_word` meets its contract. Assumes nothing.
 use mathlib.Core.Path.{◌∙◌}
 use native.Mathlib.Omega.{arith}
-use borrow.Author.Rules.{rules}
 use Rattle.layout.proofs.Put.{word-short, word-put}
 use Rattle.layout.proofs.writing.write_word.Goals as goal
 

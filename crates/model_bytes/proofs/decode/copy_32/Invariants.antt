@@ -1,11 +1,7 @@
 -- `copy_32` meets its contract. Assumes nothing.
-use Prim.Native.Nat.{ℕ, ◌-◌, ◌≤◌, ◌<◌}
-use mathlib.Core.Path.{◌≡◌, sym, ap, ◌∙◌}
-use native.Mathlib.Omega.{arith}
-use borrow.Author.Rules.{rules}
+use Prim.Native.Nat.{◌-◌, ◌≤◌}
+use mathlib.Core.Path.{◌≡◌}
 use lib.ListN.{length, take, drop}
-use lib.Seq.{take_all}
-use Rattle.model_bytes.proofs.Laws.Reading.{copy_more}
 use Rattle.model_bytes.proofs.decode.copy_32.Given as goal
 
 abbrev pub invariant-loop-j : goal.invariant-loop-j

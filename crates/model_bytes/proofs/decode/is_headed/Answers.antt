@@ -2,7 +2,6 @@
 use Prim.Native.Nat.{ℕ}
 use mathlib.Core.Path.{sym, ap, ◌∙◌}
 use native.Mathlib.Omega.{arith}
-use borrow.Author.Rules.{rules}
 use lib.Dec.{leb}
 use Rattle.model_bytes.proofs.Laws.Decoding.{headed-short, headed_other, headed-many, headed_is}
 use Rattle.model_bytes.proofs.decode.is_headed.Goals as goal

@@ -1,6 +1,5 @@
 -- `read_entry` meets its contract. Assumes nothing.
 use mathlib.Core.Path.{refl, sym, ap, ◌∙◌}
-use borrow.Author.Rules.{rules}
 use borrow.Author.Tests.{not-true, not-false}
 use Rattle.held.proofs.Laws.Rows.{no_entry}
 use Rattle.component_layout.specs.Components.{component_read}

@@ -1,13 +1,10 @@
 -- `read_lists` meets its contract. Assumes nothing.
-use Prim.Native.Nat.{◌-◌, ◌≤◌}
 use mathlib.Core.Path.{◌≡◌, refl}
 use native.Mathlib.Omega.{arith}
-use borrow.Author.Rules.{rules}
 use borrow.Author.Tests.{not-true, not-false}
-use lib.ListN.{length, length-set}
+use lib.ListN.{length-set}
 use Rattle.model.specs.View.{list_of, list_fits}
-use Rattle.model_bytes.specs.ModelBytes.{list_row}
-use Rattle.model_bytes.proofs.Laws.Reading.{Sofar, sofar_none, sofar_more, sofar_stop, sofar_all}
+use Rattle.model_bytes.proofs.Laws.Reading.{sofar_none, sofar_more, sofar_stop, sofar_all}
 use Rattle.model_bytes.proofs.decode.read_lists.Goals as goal
 
 pub loop-i-init : goal.loop-i-init

@@ -2,7 +2,6 @@
 use Prim.Native.Nat.{◌+◌}
 use mathlib.Core.Path.{sym}
 use native.Mathlib.Omega.{arith}
-use borrow.Author.Rules.{rules}
 use Rattle.row_reading.proofs.Laws.{blank_as}
 use Rattle.model_bytes.proofs.Laws.Reading.{place-blank, place-text}
 use Rattle.model_bytes.proofs.decode.read_place.Goals as goal

@@ -1,13 +1,10 @@
 -- `read_places` meets its contract. Assumes nothing.
 use Prim.Native.Nat.{◌-◌, ◌≤◌}
-use mathlib.Core.Path.{◌≡◌, refl}
-use native.Mathlib.Omega.{arith}
-use borrow.Author.Rules.{rules}
-use borrow.Author.Tests.{not-true, not-false}
-use lib.ListN.{length, length-set}
+use mathlib.Core.Path.{◌≡◌}
+use lib.ListN.{length}
 use Rattle.model.specs.View.{place_of, place_fits}
 use Rattle.rows.specs.Rows.{place_row}
-use Rattle.model_bytes.proofs.Laws.Reading.{Sofar, sofar_none, sofar_more, sofar_stop, sofar_all}
+use Rattle.model_bytes.proofs.Laws.Reading.{Sofar}
 use Rattle.model_bytes.proofs.decode.read_places.Given as goal
 
 abbrev pub invariant-loop-i : goal.invariant-loop-i

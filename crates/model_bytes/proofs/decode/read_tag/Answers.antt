@@ -1,5 +1,4 @@
 -- `read_tag` meets its contract. Assumes nothing.
-use borrow.Author.Rules.{rules}
 use Rattle.model_bytes.proofs.Laws.Reading.{tag_read}
 use Rattle.model_bytes.proofs.decode.read_tag.Goals as goal
 

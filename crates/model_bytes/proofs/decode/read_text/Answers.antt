@@ -2,8 +2,6 @@
 use Prim.Native.Nat.{◌+◌, ◌-◌}
 use mathlib.Core.Path.{◌∙◌}
 use native.Mathlib.Omega.{arith}
-use borrow.Author.Rules.{rules}
-use borrow.Author.Tests.{not-true, not-false}
 use Rattle.rows.proofs.Laws.Reading.{text-long, text_dirty}
 use Rattle.row_reading.proofs.Laws.{blank_as}
 use Rattle.model_bytes.proofs.Laws.Reading.{read_none, text-read}

@@ -1,13 +1,8 @@
 -- `are_lists` meets its contract. Assumes nothing.
 use Prim.Native.Nat.{◌-◌, ◌≤◌}
-use mathlib.Core.Path.{◌≡◌}
-use borrow.Author.Tests.{not-false}
 use Rattle.rows.specs.Rows.{rows_in}
 use Rattle.model_bytes.specs.ModelBytes.{list_row}
 use Rattle.model_holding.specs.Holds.{Held}
-use Rattle.model_holding.proofs.Laws.{not_held, none-held, more-held, all_held}
-use native.Mathlib.Omega.{arith}
-use borrow.Author.Rules.{rules}
 use Rattle.model_holding.proofs.holds.are_lists.Given as goal
 
 abbrev pub invariant-loop-i : goal.invariant-loop-i

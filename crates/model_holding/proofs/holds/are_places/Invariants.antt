@@ -1,12 +1,7 @@
 -- `are_places` meets its contract. Assumes nothing.
 use Prim.Native.Nat.{◌-◌, ◌≤◌}
-use mathlib.Core.Path.{◌≡◌}
-use borrow.Author.Tests.{not-false}
 use Rattle.rows.specs.Rows.{rows_in, place_row}
 use Rattle.model_holding.specs.Holds.{Held}
-use Rattle.model_holding.proofs.Laws.{not_held, none-held, more-held, all_held}
-use native.Mathlib.Omega.{arith}
-use borrow.Author.Rules.{rules}
 use Rattle.model_holding.proofs.holds.are_places.Given as goal
 
 abbrev pub invariant-loop-i : goal.invariant-loop-i

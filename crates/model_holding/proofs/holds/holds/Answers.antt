@@ -1,10 +1,8 @@
 -- `holds` meets its contract. Assumes nothing.
 use mathlib.Core.Path.{sym, ◌∙◌}
-use borrow.Author.Tests.{not-false}
 use Rattle.model_bytes.proofs.Laws.Decoding.{head}
 use Rattle.model_holding.proofs.Laws.{not_held, model-held}
 use native.Mathlib.Omega.{arith}
-use borrow.Author.Rules.{rules}
 use Rattle.model_holding.proofs.holds.holds.Goals as goal
 
 pub returns-then-not-is_headed : goal.returns-then-not-is_headed

@@ -1,9 +1,7 @@
 -- `is_entry` meets its contract. Assumes nothing.
 use mathlib.Core.Path.{sym, ap, ◌∙◌}
-use borrow.Author.Tests.{not-false}
 use Rattle.component_layout.specs.Components.{component_read}
 use Rattle.model_holding.proofs.Laws.{not_held, entry-held}
-use borrow.Author.Rules.{rules}
 use Rattle.model_holding.proofs.holds.is_entry.Goals as goal
 
 pub returns-then-not-is_tag : goal.returns-then-not-is_tag

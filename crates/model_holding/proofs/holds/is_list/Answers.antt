@@ -1,8 +1,6 @@
 -- `is_list` meets its contract. Assumes nothing.
-use borrow.Author.Tests.{not-false}
 use Rattle.model_holding.proofs.Laws.{not_held, list-checked}
 use native.Mathlib.Omega.{arith}
-use borrow.Author.Rules.{rules}
 use Rattle.model_holding.proofs.holds.is_list.Goals as goal
 
 pub returns-then-not-is_tag : goal.returns-then-not-is_tag

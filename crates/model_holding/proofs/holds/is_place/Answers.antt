@@ -1,6 +1,5 @@
 -- `is_place` meets its contract. Assumes nothing.
 use Rattle.model_holding.proofs.Laws.{place-checked, place-text-held}
-use borrow.Author.Rules.{rules}
 use Rattle.model_holding.proofs.holds.is_place.Goals as goal
 
 pub returns-then-n-eq0 : goal.returns-then-n-eq0

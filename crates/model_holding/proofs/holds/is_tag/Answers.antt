@@ -1,6 +1,5 @@
 -- `is_tag` meets its contract. Assumes nothing.
 use Rattle.model_holding.proofs.Laws.{tag_held}
-use borrow.Author.Rules.{rules}
 use Rattle.model_holding.proofs.holds.is_tag.Goals as goal
 
 pub returns : goal.returns

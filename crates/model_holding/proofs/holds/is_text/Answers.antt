@@ -1,7 +1,6 @@
 -- `is_text` meets its contract. Assumes nothing.
 use Rattle.model_holding.proofs.Laws.{not_held, text-checked}
 use native.Mathlib.Omega.{arith}
-use borrow.Author.Rules.{rules}
 use Rattle.model_holding.proofs.holds.is_text.Goals as goal
 
 pub returns-then-n-gt32 : goal.returns-then-n-gt32

@@ -1,7 +1,5 @@
 -- `encode` meets its contract. Assumes nothing.
 use mathlib.Core.Path.{sym, ◌∙◌}
-use borrow.Author.Rules.{rules}
-use borrow.Author.Tests.{not-true, not-false}
 use Rattle.model.specs.View.{rows}
 use Rattle.model_writing.proofs.Laws.Sizes.{sized}
 use Rattle.model_writing.proofs.Laws.Encoding.{no_room, unfit, written}

@@ -1,5 +1,5 @@
 -- `write_components` meets its contract. Assumes nothing.
-use Prim.Native.Nat.{ℕ, ◌*◌, ◌-◌, ◌≤◌}
+use Prim.Native.Nat.{ℕ, ◌*◌}
 use mathlib.Core.Path.{◌≡◌, subst}
 use mathlib.Core.Option.{some}
 use native.Mathlib.Omega.{arith}

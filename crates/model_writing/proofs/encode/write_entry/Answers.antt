@@ -1,6 +1,5 @@
 -- `write_entry` meets its contract. Assumes nothing.
 use native.Mathlib.Omega.{arith}
-use borrow.Author.Rules.{rules}
 use Rattle.model_writing.proofs.Laws.Writing.{entry-wrote}
 use Rattle.model_writing.proofs.encode.write_entry.Goals as goal
 

@@ -1,6 +1,5 @@
 -- `write_header` meets its contract. Assumes nothing.
 use native.Mathlib.Omega.{arith}
-use borrow.Author.Rules.{rules}
 use Rattle.model_writing.proofs.Laws.Encoding.{header_wrote}
 use Rattle.model_writing.proofs.encode.write_header.Goals as goal
 

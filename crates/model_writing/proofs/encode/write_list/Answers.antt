@@ -1,6 +1,5 @@
 -- `write_list` meets its contract. Assumes nothing.
 use native.Mathlib.Omega.{arith}
-use borrow.Author.Rules.{rules}
 use Rattle.model_writing.proofs.Laws.Sizes.{listed}
 use Rattle.model_writing.proofs.Laws.Writing.{list_wrote}
 use Rattle.model_writing.proofs.encode.write_list.Goals as goal

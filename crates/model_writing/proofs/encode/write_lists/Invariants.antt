@@ -1,15 +1,10 @@
 -- `write_lists` meets its contract. Assumes nothing.
-use Prim.Native.Nat.{ℕ, ◌*◌, ◌-◌, ◌≤◌}
-use mathlib.Core.Path.{◌≡◌, subst}
+use Prim.Native.Nat.{◌*◌, ◌-◌, ◌≤◌}
 use mathlib.Core.Option.{some}
-use native.Mathlib.Omega.{arith}
-use lib.ListN.{length}
-use Rattle.model.specs.View.{rows, list_of, list_fits}
-use Rattle.held.proofs.Laws.Rows.{no_list}
+use Rattle.model.specs.View.{rows, list_of}
 use Rattle.rows.specs.Rows.{rows_in}
 use Rattle.model_bytes.specs.ModelBytes.{list_row}
 use Rattle.rows.specs.Written.{Wrote}
-use Rattle.model_writing.proofs.Laws.Writing.{lists-none, lists-more, row_fits}
 use Rattle.model_writing.proofs.encode.write_lists.Given as goal
 
 abbrev pub invariant-loop-i : goal.invariant-loop-i

@@ -1,7 +1,6 @@
 -- `list_fits` meets its contract. Assumes nothing.
 use mathlib.Core.Path.{◌∙◌}
 use native.Mathlib.Omega.{arith}
-use borrow.Author.Rules.{rules}
 use Rattle.model_writing.proofs.Laws.Sizes.{list-long, list-many, list-tests}
 use Rattle.model_writing.proofs.sizes.list_fits.Goals as goal
 

@@ -1,8 +1,6 @@
 -- `model_fits` meets its contract. Assumes nothing.
 use mathlib.Core.Path.{sym, ◌∙◌}
 use native.Mathlib.Omega.{arith}
-use borrow.Author.Rules.{rules}
-use borrow.Author.Tests.{not-true, not-false}
 use Rattle.model_writing.proofs.Laws.Sizes.{components-many, lists-many, components-unfit, lists-unfit, default-fits}
 use Rattle.model_writing.proofs.sizes.model_fits.Goals as goal
 

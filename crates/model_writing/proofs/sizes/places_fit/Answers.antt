@@ -1,10 +1,7 @@
 -- `places_fit` meets its contract. Assumes nothing.
-use Prim.Native.Nat.{◌-◌, ◌≤◌}
-use mathlib.Core.Path.{◌≡◌, refl, sym, ◌∙◌}
+use mathlib.Core.Path.{refl, sym, ◌∙◌}
 use native.Mathlib.Omega.{arith}
-use borrow.Author.Rules.{rules}
-use lib.ListN.{drop}
-use Rattle.model.specs.View.{rows, every, place_of, place_fits}
+use Rattle.model.specs.View.{rows, place_of, place_fits}
 use Rattle.held.proofs.Laws.Rows.{rows_next, rows-length, every_hit, every_miss, every_end}
 use Rattle.model_writing.proofs.sizes.places_fit.Goals as goal
 

@@ -1,7 +1,5 @@
 -- `loading::with_components` is safe and ends: the loop's measure is the components that are left. Assumes nothing.
-use Prim.Native.Nat.{◌-◌, ◌<◌, ◌^◌}
 use native.Mathlib.Omega.{arith}
-use borrow.Author.Rules.{rules}
 use Rattle.record.proofs.loading.with_components.Goals as goal
 
 pub overflow_add-i : goal.overflow_add-i

@@ -1,6 +1,5 @@
 -- `loading::with_places` is safe and ends: the loop's measure is the places that are left. Assumes nothing.
 use Prim.Native.Nat.{◌-◌}
-use native.Mathlib.Omega.{arith}
 use Rattle.record.proofs.loading.with_places.Given as goal
 
 abbrev pub invariant-loop-i : goal.invariant-loop-i

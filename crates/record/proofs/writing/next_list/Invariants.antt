@@ -1,6 +1,5 @@
 -- `writing::next_list` is safe and ends: the loop's measure is the rows that are left. Assumes nothing.
 use Prim.Native.Nat.{◌-◌}
-use native.Mathlib.Omega.{arith}
 use Rattle.record.proofs.writing.next_list.Given as goal
 
 abbrev pub invariant-loop-i : goal.invariant-loop-i

@@ -1,9 +1,5 @@
 -- `writing::put_lists` is safe and ends: the loop's measure is the lists that are left. Assumes nothing.
-use Prim.Native.Nat.{◌-◌, ◌≤◌}
-use mathlib.Core.Path.{◌≡◌}
-use lib.ListN.{length}
 use native.Mathlib.Omega.{arith}
-use borrow.Author.Rules.{rules}
 use Rattle.record.proofs.writing.put_lists.Goals as goal
 
 pub overflow_add-i : goal.overflow_add-i

@@ -1,17 +1,8 @@
 -- `removing::swapping::list_swapped` meets its contract. Assumes nothing.
-use native.Mathlib.Omega.{arith}
-use borrow.Author.Rules.{rules}
-use mathlib.Core.Path.{◌≡◌, refl}
+use mathlib.Core.Path.{◌≡◌}
 use Prim.Native.Nat.{◌-◌}
 use Rattle.tag.specs.View.{bytes_of}
-use Rattle.model.specs.Edit.{swap}
-use Rattle.model.specs.View.{place_of, place_fits}
-use Rattle.removing.proofs.Laws.Swept.{swept_start, swept_step}
-use Rattle.removing.proofs.Laws.Swapping.{SweptList, list_swapped}
-use Rattle.removing.proofs.swapping.list_swapped.Reads as reads
-use Rattle.removing.proofs.swapping.list_swapped.Lts as lts
-use Rattle.held.proofs.find.places_held.Reads as places-held-reads
-use Rattle.removing.proofs.swapping.place_swapped.Reads as place-swapped-reads
+use Rattle.removing.proofs.Laws.Swapping.{SweptList}
 use Rattle.removing.proofs.swapping.list_swapped.Given as goal
 
 abbrev pub invariant-loop-i : goal.invariant-loop-i

@@ -1,11 +1,7 @@
 -- `removing::swapping::place_swapped` meets its contract. Assumes nothing.
 use mathlib.Core.Path.{sym, ◌∙◌}
-use borrow.Author.Rules.{rules}
 use Rattle.tag.specs.View.{bytes_of}
 use Rattle.removing.proofs.Laws.Swapping.{swap_hit, swap_miss, swap-none}
-use Rattle.removing.proofs.swapping.place_swapped.Reads as reads
-use Rattle.removing.proofs.swapping.place_swapped.Lts as lts
-use Rattle.tag.proofs.same_tag.Reads as same-tag-reads
 use Rattle.removing.proofs.swapping.place_swapped.Goals as goal
 
 pub returns-then-same_tag : goal.returns-then-same_tag

@@ -1,18 +1,11 @@
 -- `removing::swapping::places_swapped` meets its contract. Assumes nothing.
 use native.Mathlib.Omega.{arith}
-use borrow.Author.Rules.{rules}
-use mathlib.Core.Path.{◌≡◌, refl}
-use Prim.Native.Nat.{◌-◌}
+use mathlib.Core.Path.{refl}
 use Rattle.tag.specs.View.{bytes_of}
 use Rattle.model.specs.View.{place_of, list_of, place_fits, list_fits}
 use Rattle.removing.specs.Swapping.{swap_list}
 use Rattle.removing.proofs.Laws.Swept.{swept_start, swept_step}
-use Rattle.removing.proofs.Laws.Swapping.{SweptLists, places_swapped}
-use Rattle.removing.proofs.swapping.places_swapped.Reads as reads
-use Rattle.removing.proofs.swapping.places_swapped.Lts as lts
-use Rattle.held.proofs.find.lists_held.Reads as lists-held-reads
-use Rattle.removing.proofs.swapping.list_swapped.Reads as list-swapped-reads
-use Rattle.removing.proofs.swapping.place_swapped.Reads as place-swapped-reads
+use Rattle.removing.proofs.Laws.Swapping.{places_swapped}
 use Rattle.removing.proofs.swapping.places_swapped.Goals as goal
 
 pub loop-i-init : goal.loop-i-init

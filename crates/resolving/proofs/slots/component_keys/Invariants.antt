@@ -1,6 +1,4 @@
 -- `resolving::slots::component_keys` meets its contract. Assumes nothing.
-use native.Mathlib.Omega.{arith}
-use borrow.Author.Rules.{rules}
 use Prim.Native.Nat.{◌≤◌, ◌-◌}
 use Rattle.resolving.proofs.slots.component_keys.Given as goal
 

@@ -1,6 +1,4 @@
 -- `resolving::slots::guess` meets its contract. Assumes nothing.
-use native.Mathlib.Omega.{arith}
-use borrow.Author.Rules.{rules}
 use Prim.Native.Nat.{◌≤◌, ◌-◌}
 use Rattle.resolving.proofs.slots.guess.Given as goal
 

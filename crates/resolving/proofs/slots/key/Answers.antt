@@ -1,7 +1,5 @@
 -- `resolving::slots::key` meets its contract. Assumes nothing.
 use native.Mathlib.Omega.{arith}
-use borrow.Author.Rules.{rules}
-use Prim.Native.Nat.{◌≤◌, ◌-◌}
 use Rattle.resolving.proofs.slots.key.Goals as goal
 
 pub bounds-t-i : goal.bounds-t-i

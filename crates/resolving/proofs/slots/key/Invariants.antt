@@ -1,6 +1,4 @@
 -- `resolving::slots::key` meets its contract. Assumes nothing.
-use native.Mathlib.Omega.{arith}
-use borrow.Author.Rules.{rules}
 use Prim.Native.Nat.{◌≤◌, ◌-◌}
 use Rattle.resolving.proofs.slots.key.Given as goal
 

@@ -1,6 +1,5 @@
 -- `resolving::slots::node_of` meets its contract: `Laws/Node.antt`. Assumes nothing.
 use native.Mathlib.Omega.{arith}
-use borrow.Author.Rules.{rules}
 use mathlib.Core.Path.{sym, ◌∙◌}
 use Rattle.tag.specs.View.{bytes_of}
 use Rattle.resolving.proofs.Laws.Node.{node_hit, node-list, node_neither}

@@ -1,14 +1,11 @@
 -- `resolving::slots::resolve` meets its contract: `Laws/Slots.antt`. Assumes nothing.
 use native.Mathlib.Omega.{arith}
-use borrow.Author.Rules.{rules}
-use Prim.Native.Nat.{◌*◌, ◌-◌, ◌%◌, min}
+use Prim.Native.Nat.{◌*◌, ◌%◌}
 use mathlib.Core.Path.{◌≡◌, ap, ◌∙◌}
 use mathlib.Core.Bool.{true}
-use mathlib.Core.Logic.{⊎_elim}
-use lib.ListN.{length, length-map}
-use Rattle.model.specs.View.{passes}
+use lib.ListN.{length}
 use Rattle.held.proofs.Laws.Standing.{standing}
-use Rattle.resolving.proofs.Laws.Slots.{Upto, upto_start, upto_more, upto_end, settle_fast, settle_slow}
+use Rattle.resolving.proofs.Laws.Slots.{upto_start, upto_more, upto_end, settle_fast, settle_slow}
 use Rattle.resolving.proofs.slots.resolve.Goals as goal
 use Rattle.resolving.proofs.slots.resolve.Goals.{then-v-ge195, else-v-ge195}
 

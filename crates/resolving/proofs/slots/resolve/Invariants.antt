@@ -1,14 +1,9 @@
 -- `resolving::slots::resolve` meets its contract: `Laws/Slots.antt`. Assumes nothing.
-use native.Mathlib.Omega.{arith}
-use borrow.Author.Rules.{rules}
-use Prim.Native.Nat.{◌*◌, ◌-◌, ◌%◌, min}
-use mathlib.Core.Path.{◌≡◌, ap, ◌∙◌}
+use Prim.Native.Nat.{◌*◌, ◌-◌, min}
+use mathlib.Core.Path.{◌≡◌}
 use mathlib.Core.Bool.{true}
-use mathlib.Core.Logic.{⊎_elim}
-use lib.ListN.{length, length-map}
 use Rattle.model.specs.View.{passes}
-use Rattle.held.proofs.Laws.Standing.{standing}
-use Rattle.resolving.proofs.Laws.Slots.{Upto, upto_start, upto_more, upto_end, settle_fast, settle_slow}
+use Rattle.resolving.proofs.Laws.Slots.{Upto}
 use Rattle.resolving.proofs.slots.resolve.Given as goal
 
 abbrev pub invariant-loop-j : goal.invariant-loop-j

@@ -1,5 +1,4 @@
 -- `resolving::slots::settle` meets its contract. Assumes nothing.
-use borrow.Author.Rules.{rules}
 use mathlib.Core.Path.{sym, ◌∙◌}
 use borrow.Author.Tests.{lt-ltb, le-ltb, eq-eqb, ne_eqb}
 use Rattle.resolving.proofs.slots.settle.Goals as goal

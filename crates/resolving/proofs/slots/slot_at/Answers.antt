@@ -1,7 +1,6 @@
 -- `resolving::slots::slot_at` meets its contract: `Laws/Places.antt`. Assumes nothing.
-use borrow.Author.Rules.{rules}
 use mathlib.Core.Path.{◌≡◌, refl}
-use lib.ListN.{length, length-map}
+use lib.ListN.{length}
 use Rattle.resolving.proofs.Laws.Places.{slot_own, slot-past, slot-named, slot_gap}
 use Rattle.resolving.proofs.slots.slot_at.Goals as goal
 

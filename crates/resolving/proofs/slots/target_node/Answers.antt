@@ -1,7 +1,6 @@
 -- `resolving::slots::target_node` meets its contract: `Laws/Slots.antt`. Assumes nothing.
-use borrow.Author.Rules.{rules}
 use mathlib.Core.Path.{◌≡◌}
-use lib.ListN.{length, length-map}
+use lib.ListN.{length}
 use Rattle.held.proofs.Laws.Standing.{standing}
 use Rattle.resolving.proofs.Laws.Slots.{node_fast}
 use Rattle.resolving.proofs.slots.target_node.Goals as goal

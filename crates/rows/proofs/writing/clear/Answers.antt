@@ -1,9 +1,8 @@
 -- `clear` meets its contract. Assumes nothing.
-use Prim.Native.Nat.{ℕ, ◌-◌, ◌≤◌}
+use Prim.Native.Nat.{ℕ}
 use mathlib.Core.Path.{◌≡◌, subst}
 use mathlib.Core.Bool.{true}
 use native.Mathlib.Omega.{arith}
-use borrow.Author.Rules.{rules}
 use Rattle.rows.specs.Rows.{blank}
 use Rattle.rows.specs.Written.{Wrote}
 use Rattle.rows.proofs.Laws.Writing.{clear_none, clear-more}

@@ -1,11 +1,7 @@
 -- `copy_bytes` meets its contract. Assumes nothing.
-use Prim.Native.Nat.{ℕ, ◌-◌, ◌≤◌}
-use mathlib.Core.Path.{◌≡◌, subst}
-use native.Mathlib.Omega.{arith}
-use borrow.Author.Rules.{rules}
-use lib.ListN.{length, take, drop}
+use Prim.Native.Nat.{◌-◌, ◌≤◌}
+use lib.ListN.{take, drop}
 use Rattle.rows.specs.Written.{Wrote}
-use Rattle.rows.proofs.Laws.Writing.{copy_none, copied_more}
 use Rattle.rows.proofs.writing.copy_bytes.Given as goal
 
 abbrev pub invariant-loop-i : goal.invariant-loop-i

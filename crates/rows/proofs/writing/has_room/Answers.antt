@@ -1,5 +1,4 @@
 -- `has_room` meets its contract. Assumes nothing.
-use borrow.Author.Rules.{rules}
 use Rattle.rows.proofs.Laws.Tests.{room, no_room}
 use Rattle.rows.proofs.writing.has_room.Goals as goal
 

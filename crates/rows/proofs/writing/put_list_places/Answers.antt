@@ -1,6 +1,5 @@
 -- `put_list_places` meets its contract. Assumes nothing.
 use native.Mathlib.Omega.{arith}
-use borrow.Author.Rules.{rules}
 use Rattle.rows.proofs.Laws.Writing.{three_wrote}
 use Rattle.rows.proofs.writing.put_list_places.Goals as goal
 

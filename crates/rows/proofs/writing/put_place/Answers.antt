@@ -1,5 +1,4 @@
 -- `put_place` meets its contract. Assumes nothing.
-use borrow.Author.Rules.{rules}
 use Rattle.rows.proofs.Laws.Writing.{place-wrote, unassigned_wrote}
 use Rattle.rows.proofs.writing.put_place.Goals as goal
 

@@ -1,9 +1,9 @@
 -- `put_places` meets its contract. Assumes nothing.
-use Prim.Native.Nat.{ℕ, ◌*◌, ◌-◌, ◌≤◌}
+use Prim.Native.Nat.{ℕ, ◌*◌}
 use mathlib.Core.Path.{◌≡◌, subst}
 use mathlib.Core.Option.{some}
 use native.Mathlib.Omega.{arith}
-use lib.ListN.{length, length-map}
+use lib.ListN.{length}
 use Rattle.rows.specs.Rows.{rows_in, place_row, places_of}
 use Rattle.rows.specs.Written.{Wrote}
 use Rattle.rows.proofs.Laws.Writing.{places-none, places-more}

@@ -1,12 +1,8 @@
 -- `put_places` meets its contract. Assumes nothing.
-use Prim.Native.Nat.{ℕ, ◌*◌, ◌-◌, ◌≤◌}
-use mathlib.Core.Path.{◌≡◌, subst}
+use Prim.Native.Nat.{◌*◌, ◌-◌, ◌≤◌}
 use mathlib.Core.Option.{some}
-use native.Mathlib.Omega.{arith}
-use lib.ListN.{length, length-map}
 use Rattle.rows.specs.Rows.{rows_in, place_row, places_of}
 use Rattle.rows.specs.Written.{Wrote}
-use Rattle.rows.proofs.Laws.Writing.{places-none, places-more}
 use Rattle.rows.proofs.writing.put_places.Given as goal
 
 abbrev pub invariant-loop-i : goal.invariant-loop-i

@@ -1,5 +1,4 @@
 -- `put_six` meets its contract. Assumes nothing.
-use borrow.Author.Rules.{rules}
 use Rattle.rows.proofs.Laws.Writing.{six_wrote}
 use Rattle.rows.proofs.writing.put_six.Goals as goal
 

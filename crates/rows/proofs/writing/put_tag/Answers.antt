@@ -1,5 +1,4 @@
 -- `put_tag` meets its contract. Assumes nothing.
-use borrow.Author.Rules.{rules}
 use Rattle.rows.proofs.Laws.Writing.{tag_wrote}
 use Rattle.rows.proofs.writing.put_tag.Goals as goal
 

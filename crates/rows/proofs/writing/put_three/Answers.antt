@@ -1,5 +1,4 @@
 -- `put_three` meets its contract. Assumes nothing.
-use borrow.Author.Rules.{rules}
 use Rattle.rows.proofs.Laws.Writing.{words-wrote}
 use Rattle.rows.proofs.writing.put_three.Goals as goal
 

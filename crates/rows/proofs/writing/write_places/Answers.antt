@@ -1,5 +1,4 @@
 -- `write_places` meets its contract. Assumes nothing.
-use borrow.Author.Rules.{rules}
 use mathlib.Core.Path.{sym, ◌∙◌}
 use borrow.Author.Tests.{leb-true, leb-false}
 use Rattle.rows.proofs.Laws.Writing.{writes, narrow}

@@ -1,5 +1,4 @@
 -- `write_text` meets its contract. Assumes nothing.
-use borrow.Author.Rules.{rules}
 use Rattle.rows.proofs.Laws.Writing.{text-wrote}
 use Rattle.rows.proofs.writing.write_text.Goals as goal
 

@@ -1,5 +1,4 @@
 -- `shapes::torus::signed_root` meets its contract. Assumes nothing.
-use borrow.Author.Rules.{rules}
 use mathlib.Core.Path.{ap, ◌∙◌}
 use Rattle.float.specs.RootOf.{root_of}
 use Rattle.shapes.specs.Signed.{signed_like}

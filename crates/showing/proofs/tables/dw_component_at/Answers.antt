@@ -1,5 +1,4 @@
 -- `dw_component_at` meets its contract. Assumes nothing.
-use borrow.Author.Rules.{rules}
 use borrow.Author.Tests.{not-true, not-false}
 use Rattle.showing.proofs.Laws.Tables.{component-refused, component-nothing, component-shown, entry_7, entry-held, entry-nothing}
 use Rattle.showing.proofs.tables.dw_component_at.Goals as goal

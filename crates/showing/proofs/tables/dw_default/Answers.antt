@@ -1,5 +1,4 @@
 -- `dw_default` meets its contract. Assumes nothing.
-use borrow.Author.Rules.{rules}
 use borrow.Author.Tests.{not-true, not-false}
 use Rattle.showing.proofs.Laws.Tables.{default_7, default_some, default_none}
 use Rattle.showing.proofs.tables.dw_default.Goals as goal

@@ -1,5 +1,4 @@
 -- `dw_get_component` meets its contract. Assumes nothing.
-use borrow.Author.Rules.{rules}
 use mathlib.Core.Path.{sym, ap, ◌∙◌}
 use mathlib.Core.Option.{none, some}
 use borrow.Author.Tests.{not-true, not-false}

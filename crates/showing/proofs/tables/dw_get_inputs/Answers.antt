@@ -1,6 +1,5 @@
 -- `dw_get_inputs` meets its contract. Assumes nothing.
 use native.Mathlib.Omega.{arith}
-use borrow.Author.Rules.{rules}
 use borrow.Author.Tests.{not-true, not-false}
 use Rattle.opened.proofs.Laws.Said.{label_whole}
 use Rattle.showing.proofs.Laws.Tables.{list-refused, list-nothing, list-shown, inputs_7, list-long, list-found, places-held, places-nothing}

@@ -1,6 +1,5 @@
 -- `dw_list_at` meets its contract. Assumes nothing.
 use native.Mathlib.Omega.{arith}
-use borrow.Author.Rules.{rules}
 use borrow.Author.Tests.{not-true, not-false}
 use Rattle.showing.proofs.Laws.Tables.{list-refused, list-nothing, list-shown, list_7, list_held, list-none}
 use Rattle.showing.proofs.tables.dw_list_at.Goals as goal

@@ -1,7 +1,6 @@
 -- `number::bits` is safe and ends: the loop's measure is what is left of the word. Assumes nothing.
 use Prim.Native.Nat.{◌-◌}
 use lib.ListN.{length}
-use native.Mathlib.Omega.{arith}
 use Rattle.spelling.proofs.number.bits.Given as goal
 
 abbrev pub invariant-loop-i : goal.invariant-loop-i

@@ -1,7 +1,6 @@
 -- `text::first` is safe: a part that is lent has the length asked. Assumes nothing.
 use mathlib.Core.Path.{sym}
 use lib.Seq.{length-take-le}
-use borrow.Author.Rules.{rules}
 use Rattle.spelling.proofs.text.first.Goals as goal
 
 pub slice_bounds-result-end : goal.slice_bounds-result-end

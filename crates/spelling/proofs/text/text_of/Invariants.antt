@@ -1,8 +1,6 @@
 -- `text::text_of` is safe and ends: the loop's measure is what is left of the word. Assumes nothing.
 use Prim.Native.Nat.{◌-◌, ◌≤◌}
 use lib.ListN.{length}
-use native.Mathlib.Omega.{arith}
-use borrow.Author.Rules.{rules}
 use Rattle.spelling.proofs.text.text_of.Given as goal
 
 abbrev pub invariant-loop-i : goal.invariant-loop-i

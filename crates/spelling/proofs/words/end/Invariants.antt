@@ -1,7 +1,6 @@
 -- `words::end` is safe and ends: the loop's measure is what is left of the line. Assumes nothing.
 use Prim.Native.Nat.{◌-◌}
 use lib.ListN.{length}
-use native.Mathlib.Omega.{arith}
 use Rattle.spelling.proofs.words.end.Given as goal
 
 abbrev pub invariant-loop-i : goal.invariant-loop-i

@@ -1,8 +1,6 @@
 -- `are_apart` meets its contract. Assumes nothing.
-use Prim.Native.Nat.{◌-◌, ◌≤◌}
 use mathlib.Core.Path.{sym}
 use mathlib.Core.Bool.{true≢false}
-use Rattle.standing.specs.Names.{Apart}
 use Rattle.finding.proofs.Laws.Loops.{all_more}
 use native.Mathlib.Omega.{arith}
 use Rattle.standing.proofs.names.are_apart.Goals as goal

@@ -1,5 +1,5 @@
 -- `component_keys` meets its contract. Assumes nothing.
-use Prim.Native.Nat.{ℕ, ◌-◌, ◌≤◌}
+use Prim.Native.Nat.{ℕ}
 use mathlib.Core.Path.{◌≡◌, refl, subst}
 use Rattle.finding.specs.Rows.{component_at}
 use Rattle.standing.specs.Names.{Keys}

@@ -1,6 +1,5 @@
 -- `key` meets its contract. Assumes nothing.
 use Rattle.standing.proofs.Laws.Keys.{key_of}
-use borrow.Author.Rules.{rules}
 use Rattle.standing.proofs.names.key.Goals as goal
 
 pub returns : goal.returns

@@ -1,5 +1,5 @@
 -- `list_keys` meets its contract. Assumes nothing.
-use Prim.Native.Nat.{ℕ, ◌-◌, ◌≤◌}
+use Prim.Native.Nat.{ℕ}
 use mathlib.Core.Path.{◌≡◌, refl, subst}
 use Rattle.finding.specs.Rows.{list_place_at}
 use Rattle.standing.specs.Names.{Keys}

@@ -1,10 +1,7 @@
 -- `list_keys` meets its contract. Assumes nothing.
-use Prim.Native.Nat.{ℕ, ◌-◌, ◌≤◌}
-use mathlib.Core.Path.{◌≡◌, refl, subst}
+use Prim.Native.Nat.{◌-◌, ◌≤◌}
 use Rattle.finding.specs.Rows.{list_place_at}
 use Rattle.standing.specs.Names.{Keys}
-use Rattle.standing.proofs.Laws.Keys.{keys_more}
-use native.Mathlib.Omega.{arith}
 use Rattle.standing.proofs.names.list_keys.Given as goal
 
 abbrev pub invariant-loop-i : goal.invariant-loop-i

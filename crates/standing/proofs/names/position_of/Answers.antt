@@ -1,7 +1,4 @@
 -- `position_of` meets its contract. Assumes nothing.
-use Prim.Native.Nat.{ℕ, ◌-◌, ◌≤◌, ◌<◌}
-use mathlib.Core.Logic.{◌≢◌}
-use lib.ListN.{get_or}
 use Rattle.finding.proofs.Laws.Loops.{all_more}
 use native.Mathlib.Omega.{arith}
 use Rattle.standing.proofs.names.position_of.Goals as goal

@@ -2,8 +2,6 @@
 use Prim.Native.Nat.{ℕ, ◌-◌, ◌≤◌, ◌<◌}
 use mathlib.Core.Logic.{◌≢◌}
 use lib.ListN.{get_or}
-use Rattle.finding.proofs.Laws.Loops.{all_more}
-use native.Mathlib.Omega.{arith}
 use Rattle.standing.proofs.names.position_of.Given as goal
 
 abbrev pub invariant-loop-i : goal.invariant-loop-i

@@ -1,9 +1,6 @@
 -- `run_list` meets its contract. Assumes nothing.
 use native.Mathlib.Omega.{arith}
-use borrow.Author.Rules.{rules}
-use Prim.Native.Nat.{◌-◌}
-use Rattle.newest.specs.Place.{tag_at}
-use Rattle.steady.proofs.Laws.Rows.{Resting, rest_start, rest_next, rest_end}
+use Rattle.steady.proofs.Laws.Rows.{rest_start, rest_next, rest_end}
 use Rattle.steady.proofs.list.run_list.Goals as goal
 
 pub loop-i-init : goal.loop-i-init

@@ -1,9 +1,7 @@
 -- `run_list` meets its contract. Assumes nothing.
-use native.Mathlib.Omega.{arith}
-use borrow.Author.Rules.{rules}
 use Prim.Native.Nat.{◌-◌}
 use Rattle.newest.specs.Place.{tag_at}
-use Rattle.steady.proofs.Laws.Rows.{Resting, rest_start, rest_next, rest_end}
+use Rattle.steady.proofs.Laws.Rows.{Resting}
 use Rattle.steady.proofs.list.run_list.Given as goal
 
 abbrev pub invariant-loop-i : goal.invariant-loop-i

@@ -1,7 +1,6 @@
 -- `put_model` meets its contract. Assumes nothing.
-use borrow.Author.Rules.{rules}
 use mathlib.Core.Path.{◌≡◌, refl}
-use lib.ListN.{length, length-map}
+use lib.ListN.{length}
 use Rattle.storing.proofs.store.put_model.Goals as goal
 
 pub returns-then-code-eq0 : goal.returns-then-code-eq0

@@ -1,6 +1,4 @@
 -- `store` meets its contract. Assumes nothing.
-use borrow.Author.Rules.{rules}
-use borrow.Author.Tests.{not-true, not-false}
 use Rattle.storing.proofs.Laws.Stored.{stored_7, stored_told}
 use Rattle.storing.proofs.store.store.Goals as goal
 

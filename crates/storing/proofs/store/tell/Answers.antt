@@ -1,5 +1,4 @@
 -- `tell` meets its contract. Assumes nothing.
-use borrow.Author.Rules.{rules}
 use Rattle.storing.proofs.Laws.Told.{told-done, told-made, told-refused}
 use Rattle.storing.proofs.store.tell.Goals as goal
 

@@ -1,5 +1,4 @@
 -- `tell_done` meets its contract. Assumes nothing.
-use borrow.Author.Rules.{rules}
 use Rattle.storing.proofs.Laws.Told.{told-plain}
 use Rattle.storing.proofs.store.tell_done.Goals as goal
 

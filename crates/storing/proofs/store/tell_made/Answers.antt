@@ -1,6 +1,5 @@
 -- `tell_made` meets its contract. Assumes nothing.
 use mathlib.Core.Path.{refl}
-use borrow.Author.Rules.{rules}
 use Rattle.storing.proofs.store.tell_made.Goals as goal
 
 pub returns : goal.returns

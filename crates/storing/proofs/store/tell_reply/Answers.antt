@@ -1,5 +1,4 @@
 -- `tell_reply` meets its contract. Assumes nothing.
-use borrow.Author.Rules.{rules}
 use Rattle.storing.proofs.Laws.Told.{told-plain, replied_number, replied_refused}
 use Rattle.storing.proofs.store.tell_reply.Goals as goal
 

@@ -1,5 +1,4 @@
 -- `tag::bytes::same_bytes` meets its contract: `Laws/Is.antt`. Assumes nothing.
-use borrow.Author.Rules.{rules}
 use Rattle.tag.proofs.Laws.Is.{is_only}
 use Rattle.tag.proofs.bytes.same_bytes.Goals as goal
 

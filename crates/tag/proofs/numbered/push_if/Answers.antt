@@ -1,5 +1,4 @@
 -- `tag::numbered::push_if` meets its contract: a byte more or none. Assumes nothing.
-use borrow.Author.Rules.{rules}
 use mathlib.Core.List.{append-nil}
 use Rattle.tag.proofs.numbered.push_if.Goals as goal
 

@@ -1,12 +1,11 @@
 -- `tag::order::comes_before` meets its contract. Of what is left at i the first stands ahead exactly where it does of the whole: `Laws/Steps.antt`.
 -- Assumes nothing.
-use Prim.Native.Nat.{◌≤◌, ◌-◌, min}
+use Prim.Native.Nat.{min}
 use mathlib.Core.Path.{◌≡◌, refl, sym, ◌∙◌, ap₂}
 use native.Mathlib.Omega.{arith}
 use borrow.Author.Rules.{rules}
 use lib.Dec.{ltb}
-use lib.ListN.{length, drop, get_or}
-use Rattle.tag.specs.Tags.{before}
+use lib.ListN.{length, get_or}
 use Rattle.tag.specs.View.{bytes_of}
 use Rattle.tag.proofs.Laws.Steps.{before_miss, before_hit, before_end}
 use Rattle.tag.proofs.Laws.View.{bytes_of-length, bytes_of_at}

@@ -2,7 +2,6 @@
 use Prim.Native.Nat.{◌-◌}
 use mathlib.Core.Path.{◌≡◌}
 use lib.ListN.{length}
-use native.Mathlib.Omega.{arith}
 use Rattle.word_writing.proofs.kind.put_component.Given as goal
 
 abbrev pub invariant-loop-i : goal.invariant-loop-i

@@ -1,5 +1,4 @@
 -- `geometry::vec3f::Vec3::distance_to_coord` meets its contract. Assumes nothing.
-use borrow.Author.Rules.{rules}
 use mathlib.Core.Path.{ap, ◌∙◌}
 use Rattle.float.specs.RootOf.{root_of}
 use Rattle.geometry.specs.Distance.{to_coord}

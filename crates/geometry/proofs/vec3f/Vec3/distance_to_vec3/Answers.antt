@@ -1,5 +1,4 @@
 -- `geometry::vec3f::Vec3::distance_to_vec3` meets its contract. Assumes nothing.
-use borrow.Author.Rules.{rules}
 use mathlib.Core.Path.{ap, ◌∙◌}
 use Rattle.float.specs.RootOf.{root_of}
 use Rattle.geometry.proofs.vec3f.Vec3.distance_to_vec3.Goals as goal

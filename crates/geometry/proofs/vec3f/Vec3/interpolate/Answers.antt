@@ -1,5 +1,4 @@
 -- `geometry::vec3f::Vec3::interpolate` meets its contract. Assumes nothing.
-use borrow.Author.Rules.{rules}
 use Rattle.geometry.specs.Vector.{interpolated}
 use Rattle.geometry.proofs.vec3f.Vec3.interpolate.Goals as goal
 

@@ -1,5 +1,4 @@
 -- `geometry::vec3f::Vec3::max` meets its contract. Assumes nothing.
-use borrow.Author.Rules.{rules}
 use Rattle.geometry.specs.Vector.{maximum}
 use Rattle.geometry.proofs.vec3f.Vec3.max.Goals as goal
 

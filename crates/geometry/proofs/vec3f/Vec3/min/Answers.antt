@@ -1,5 +1,4 @@
 -- `geometry::vec3f::Vec3::min` meets its contract. Assumes nothing.
-use borrow.Author.Rules.{rules}
 use Rattle.geometry.specs.Vector.{minimum}
 use Rattle.geometry.proofs.vec3f.Vec3.min.Goals as goal
 

@@ -1,5 +1,4 @@
 -- `geometry::vec3f::Vec3::normalize` meets its contract. Assumes nothing.
-use borrow.Author.Rules.{rules}
 use lib.Ieee.{of_bits, of_fields, odd}
 use Rattle.geometry.specs.Vector.{normalized}
 use Rattle.geometry.proofs.vec3f.Vec3.normalize.Goals as goal

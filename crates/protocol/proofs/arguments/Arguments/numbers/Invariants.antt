@@ -1,6 +1,5 @@
 -- `arguments::Arguments::numbers` is safe and ends: the loop's measure is the numbers that are left. Assumes nothing.
 use Prim.Native.Nat.{◌-◌}
-use native.Mathlib.Omega.{arith}
 use Rattle.protocol.proofs.arguments.Arguments.numbers.Given as goal
 
 abbrev pub invariant-loop-i : goal.invariant-loop-i

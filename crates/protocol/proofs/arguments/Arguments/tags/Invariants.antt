@@ -1,6 +1,5 @@
 -- `arguments::Arguments::tags` is safe and ends: the loop's measure is the tags that are left. Assumes nothing.
 use Prim.Native.Nat.{◌-◌}
-use native.Mathlib.Omega.{arith}
 use Rattle.protocol.proofs.arguments.Arguments.tags.Given as goal
 
 abbrev pub invariant-loop-i : goal.invariant-loop-i

@@ -1,5 +1,4 @@
 -- `shapes::sphere::Sphere::at_coord` meets its contract. Assumes nothing.
-use borrow.Author.Rules.{rules}
 use Rattle.shapes.proofs.sphere.Sphere.at_coord.Goals as goal
 
 pub returns : goal.returns

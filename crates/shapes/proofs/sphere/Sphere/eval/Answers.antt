@@ -1,5 +1,4 @@
 -- `shapes::sphere::Sphere::eval` meets its contract. Assumes nothing.
-use borrow.Author.Rules.{rules}
 use Rattle.shapes.specs.Distance.{to_sphere}
 use Rattle.shapes.proofs.sphere.Sphere.eval.Goals as goal
 

@@ -1,5 +1,4 @@
 -- `shapes::torus::Torus::eval` meets its contract. Assumes nothing.
-use borrow.Author.Rules.{rules}
 use Rattle.shapes.specs.Distance.{to_torus}
 use Rattle.shapes.proofs.torus.Torus.eval.Goals as goal
 
