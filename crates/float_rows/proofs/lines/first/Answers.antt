@@ -1,6 +1,5 @@
 -- `lines::first` is safe: a part that is lent has the length asked. Assumes nothing.
 use mathlib.Core.Path.{sym}
-use borrow.Author.Rules.{rules}
 use lib.Seq.{length-take-le}
 use Rattle.float_rows.proofs.lines.first.Goals as goal
 

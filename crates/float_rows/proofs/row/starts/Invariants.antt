@@ -1,6 +1,5 @@
 -- `row::starts` is safe and ends: the loop's measure is what is left of the word. Assumes nothing.
 use Prim.Native.Nat.{◌-◌}
-use native.Mathlib.Omega.{arith}
 use lib.ListN.{length}
 use Rattle.float_rows.proofs.row.starts.Given as goal
 
