@@ -1,5 +1,4 @@
 -- `distances::text::Column::digits` ends: what is left of the number falls. Assumes nothing.
-use Rattle.std.proofs.Common.{rules}
 use Rattle.distances.proofs.text.Column.digits.Given as goal
 
 abbrev pub invariant-loop-rest : goal.invariant-loop-rest

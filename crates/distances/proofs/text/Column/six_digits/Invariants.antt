@@ -1,5 +1,5 @@
 -- `distances::text::Column::six_digits` ends: six turns. Assumes nothing.
-use Rattle.std.proofs.Common.{◌-◌, rules}
+use Rattle.std.proofs.Common.{◌-◌}
 use Rattle.distances.proofs.text.Column.six_digits.Given as goal
 
 abbrev pub invariant-loop-turn : goal.invariant-loop-turn
