@@ -1,6 +1,5 @@
 -- `recorded::number` is safe and ends: the loop's measure is the digits that are left. Assumes nothing.
 use Prim.Native.Nat.{◌-◌}
-use native.Mathlib.Omega.{arith}
 use Rattle.component_rows.proofs.recorded.number.Given as goal
 
 abbrev pub invariant-loop-i : goal.invariant-loop-i
