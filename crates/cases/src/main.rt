@@ -5,9 +5,8 @@
 use model::implicit_model::Model;
 use script::answers;
 use spelling::words;
+use std::io::{self, Read};
 use word_writing::put_byte;
-
-const OUT: i32 = 1;
 
 // The model, and how many bytes of the line that is being read are held.
 #[derive(Clone, Copy)]
@@ -16,27 +15,33 @@ struct State {
     held: usize,
 }
 
-fn print(s: &[u8]) {
-    io::write_all(OUT, s);
-    io::write_all(OUT, b"\n");
+fn print(rt: &impl Print, s: &[u8]) -> io::Result<()> {
+    rt.write_all(s)?;
+    println!(rt)
 }
 
 // A line's end: the model after it.
-fn closed(m: Model, line: &[u8], out: &mut [u8]) -> Model {
+fn closed(rt: &impl Print, m: Model, line: &[u8], out: &mut [u8]) -> io::Result<Model> {
     if line.len() == 0 {
-        return m;
+        return Ok(m);
     }
     if words::begins(line, b'#') {
-        print(line);
-        return m;
+        print(rt, line)?;
+        return Ok(m);
     }
     let a = answers::answer(m, line, out);
-    print(words::part(out, 0, a.len));
-    a.model
+    print(rt, words::part(out, 0, a.len))?;
+    Ok(a.model)
 }
 
 // The state after the bytes s.
-fn fed(state: State, s: &[u8], line: &mut [u8], out: &mut [u8]) -> State {
+fn fed(
+    rt: &impl Print,
+    state: State,
+    s: &[u8],
+    line: &mut [u8],
+    out: &mut [u8],
+) -> io::Result<State> {
     let mut m = state.model;
     let mut held = state.held;
     let mut i: usize = 0;
@@ -44,32 +49,32 @@ fn fed(state: State, s: &[u8], line: &mut [u8], out: &mut [u8]) -> State {
         let b = s[i];
         i += 1;
         if b == b'\n' {
-            m = closed(m, words::part(line, 0, held), out);
+            m = closed(rt, m, words::part(line, 0, held), out)?;
             held = 0;
         } else {
             held = put_byte(line, held, b);
         }
     }
-    State { model: m, held }
+    Ok(State { model: m, held })
 }
 
-fn main() {
-    let mut buf = io::buffer();
-    let mut line = io::large_buffer();
-    let mut out = io::large_buffer();
+fn main(rt: HostRuntime) -> io::Result<()> {
+    let mut input = rt.reader();
+    let mut buf = [0; 4096];
+    let mut line = [0; 65536];
+    let mut out = [0; 65536];
     let empty = held::reading::new();
     let mut state = State {
         model: empty,
         held: 0,
     };
-    // nothing says that the input ends, so the turns are counted down
-    let mut turns = u64::MAX;
-    while turns > 0 {
-        let n = io::read_full(0, &mut buf);
+    // nothing says that the input ends, so the turns are counted
+    for _ in 0..u64::MAX {
+        let n = input.read(&mut buf)?;
         if n == 0 {
             break;
         }
-        state = fed(state, &buf[..n], &mut line, &mut out);
-        turns -= 1;
+        state = fed(&rt, state, &buf[..n], &mut line, &mut out)?;
     }
+    Ok(())
 }

@@ -1,4 +1,6 @@
 // The kinds that are asked: document 01's cases P5 to P10, and each kind of component.
+use std::io;
+
 #[derive(Clone, Copy)]
 pub enum Kind {
     Case,
@@ -19,23 +21,23 @@ pub enum Kind {
     Thickness,
 }
 
-pub fn print_name(fd: i32, kind: Kind) {
+pub fn print_name(rt: &impl Print, kind: Kind) -> io::Result<()> {
     match kind {
-        Kind::Case => io::write_all(fd, b"case"),
-        Kind::Constant => io::write_all(fd, b"Constant"),
-        Kind::Sphere => io::write_all(fd, b"Sphere"),
-        Kind::Torus => io::write_all(fd, b"Torus"),
-        Kind::Multiply => io::write_all(fd, b"Multiply"),
-        Kind::Add => io::write_all(fd, b"Add"),
-        Kind::Subtract => io::write_all(fd, b"Subtract"),
-        Kind::Divide => io::write_all(fd, b"Divide"),
-        Kind::Lerp => io::write_all(fd, b"Lerp"),
-        Kind::VariableLerp => io::write_all(fd, b"VariableLerp"),
-        Kind::Remap => io::write_all(fd, b"Remap"),
-        Kind::BooleanUnion => io::write_all(fd, b"BooleanUnion"),
-        Kind::BooleanIntersection => io::write_all(fd, b"BooleanIntersection"),
-        Kind::BooleanDifference => io::write_all(fd, b"BooleanDifference"),
-        Kind::Offset => io::write_all(fd, b"Offset"),
-        Kind::Thickness => io::write_all(fd, b"Thickness"),
-    };
+        Kind::Case => rt.write_all(b"case"),
+        Kind::Constant => rt.write_all(b"Constant"),
+        Kind::Sphere => rt.write_all(b"Sphere"),
+        Kind::Torus => rt.write_all(b"Torus"),
+        Kind::Multiply => rt.write_all(b"Multiply"),
+        Kind::Add => rt.write_all(b"Add"),
+        Kind::Subtract => rt.write_all(b"Subtract"),
+        Kind::Divide => rt.write_all(b"Divide"),
+        Kind::Lerp => rt.write_all(b"Lerp"),
+        Kind::VariableLerp => rt.write_all(b"VariableLerp"),
+        Kind::Remap => rt.write_all(b"Remap"),
+        Kind::BooleanUnion => rt.write_all(b"BooleanUnion"),
+        Kind::BooleanIntersection => rt.write_all(b"BooleanIntersection"),
+        Kind::BooleanDifference => rt.write_all(b"BooleanDifference"),
+        Kind::Offset => rt.write_all(b"Offset"),
+        Kind::Thickness => rt.write_all(b"Thickness"),
+    }
 }

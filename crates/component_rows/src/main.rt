@@ -11,6 +11,7 @@ mod report;
 use kind::Kind;
 use recorded::Recorded;
 use report::Tally;
+use std::io::{self, Read};
 
 const PAIRS: usize = 289;
 
@@ -21,61 +22,75 @@ fn more(n: u64) -> u64 {
 }
 
 // The nth question of a kind, and the next recorded answer.
-fn judged(mut t: Tally, kind: Kind, n: usize) -> Tally {
+fn judged(
+    rt: &impl Print,
+    input: &mut impl Read,
+    mut t: Tally,
+    kind: Kind,
+    n: usize,
+) -> io::Result<Tally> {
     t.rows = more(t.rows);
     let q = question::nth(kind, n);
     let got = question::answered(q);
-    match recorded::next() {
+    match recorded::next(input)? {
         Recorded::Bits(bits) => {
             if bits == got {
                 t.agreed = more(t.agreed);
             } else {
                 t.differed = more(t.differed);
-                report::differs(t.rows, kind, q, bits, got);
+                report::differs(rt, t.rows, kind, q, bits, got)?;
             }
         }
         Recorded::Unread => {
             t.unread = more(t.unread);
-            report::unread(t.rows, kind);
+            report::unread(rt, t.rows, kind)?;
         }
     }
-    t
+    Ok(t)
 }
 
 // The first questions of a kind, as many as asked.
-fn run(tally: Tally, kind: Kind, count: usize) -> Tally {
+fn run(
+    rt: &impl Print,
+    input: &mut impl Read,
+    tally: Tally,
+    kind: Kind,
+    count: usize,
+) -> io::Result<Tally> {
     let mut t = tally;
     for n in 0..count {
-        t = judged(t, kind, n);
+        t = judged(rt, input, t, kind, n)?;
     }
-    t
+    Ok(t)
 }
 
-fn main() {
+fn main(rt: HostRuntime) -> io::Result<()> {
+    let mut input = rt.reader();
     let mut t = Tally {
         rows: 0,
         agreed: 0,
         differed: 0,
         unread: 0,
     };
-    t = run(t, Kind::Case, 6);
-    t = run(t, Kind::Constant, PAIRS);
-    t = run(t, Kind::Sphere, PAIRS);
-    t = run(t, Kind::Torus, PAIRS);
-    t = run(t, Kind::Multiply, PAIRS);
-    t = run(t, Kind::Add, PAIRS);
-    t = run(t, Kind::Subtract, PAIRS);
-    t = run(t, Kind::Divide, PAIRS);
-    t = run(t, Kind::Lerp, TRIPLES);
-    t = run(t, Kind::VariableLerp, TRIPLES);
-    t = run(t, Kind::Remap, 2448);
-    t = run(t, Kind::BooleanUnion, PAIRS);
-    t = run(t, Kind::BooleanIntersection, PAIRS);
-    t = run(t, Kind::BooleanDifference, PAIRS);
-    t = run(t, Kind::Offset, PAIRS);
-    t = run(t, Kind::Thickness, PAIRS);
-    report::counts(t);
-    if recorded::is_left() {
-        report::left();
+    t = run(&rt, &mut input, t, Kind::Case, 6)?;
+    t = run(&rt, &mut input, t, Kind::Constant, PAIRS)?;
+    t = run(&rt, &mut input, t, Kind::Sphere, PAIRS)?;
+    t = run(&rt, &mut input, t, Kind::Torus, PAIRS)?;
+    t = run(&rt, &mut input, t, Kind::Multiply, PAIRS)?;
+    t = run(&rt, &mut input, t, Kind::Add, PAIRS)?;
+    t = run(&rt, &mut input, t, Kind::Subtract, PAIRS)?;
+    t = run(&rt, &mut input, t, Kind::Divide, PAIRS)?;
+    t = run(&rt, &mut input, t, Kind::Lerp, TRIPLES)?;
+    t = run(&rt, &mut input, t, Kind::VariableLerp, TRIPLES)?;
+    t = run(&rt, &mut input, t, Kind::Remap, 2448)?;
+    t = run(&rt, &mut input, t, Kind::BooleanUnion, PAIRS)?;
+    t = run(&rt, &mut input, t, Kind::BooleanIntersection, PAIRS)?;
+    t = run(&rt, &mut input, t, Kind::BooleanDifference, PAIRS)?;
+    t = run(&rt, &mut input, t, Kind::Offset, PAIRS)?;
+    t = run(&rt, &mut input, t, Kind::Thickness, PAIRS)?;
+    report::counts(&rt, t)?;
+    if recorded::is_left(&mut input)? {
+        report::left(&rt)?;
     }
+    Ok(())
 }

@@ -1,4 +1,6 @@
 // The recorded answers: a line each, the bits in 16 hexadecimal digits.
+use std::io::{self, ErrorKind, Read};
+
 #[derive(Clone, Copy)]
 pub enum Recorded {
     Bits(u64),
@@ -31,18 +33,18 @@ fn number(line: &[u8; 17]) -> Recorded {
 }
 
 // The answer of the next line.
-pub fn next() -> Recorded {
+pub fn next(input: &mut impl Read) -> io::Result<Recorded> {
     let mut line = [0u8; 17];
-    let n = io::read_full(0, &mut line);
-    if n < 17 {
-        return Recorded::Unread;
+    match input.read_exact(&mut line) {
+        Ok(()) => Ok(number(&line)),
+        Err(e) if e.kind() == ErrorKind::UnexpectedEof => Ok(Recorded::Unread),
+        Err(e) => Err(e),
     }
-    number(&line)
 }
 
 // Whether something follows the last line that was read.
-pub fn is_left() -> bool {
+pub fn is_left(input: &mut impl Read) -> io::Result<bool> {
     let mut line = [0u8; 17];
-    let n = io::read_full(0, &mut line);
-    n > 0
+    let n = input.read(&mut line)?;
+    Ok(n > 0)
 }

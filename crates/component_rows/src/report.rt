@@ -3,8 +3,7 @@ use crate::kind;
 use crate::kind::Kind;
 use crate::question::Question;
 use component::model_component::Component;
-
-const OUT: i32 = 1;
+use std::io;
 
 #[derive(Clone, Copy)]
 pub struct Tally {
@@ -14,73 +13,68 @@ pub struct Tally {
     pub unread: u64,
 }
 
-fn number(x: f64) {
-    io::write_all(OUT, b" ");
-    io::print_hex(OUT, float::bits::bits_of(x), 16);
+fn number(rt: &impl Print, x: f64) -> io::Result<()> {
+    print!(rt; " {:016x}", float::bits::bits_of(x))
 }
 
 // The parameters of a component that has numbers as such.
-fn parameters(c: Component) {
+fn parameters(rt: &impl Print, c: Component) -> io::Result<()> {
     match c {
-        Component::Lerp(x) => number(x),
-        Component::Offset(x) => number(x),
-        Component::Thickness(x) => number(x),
+        Component::Lerp(x) => number(rt, x),
+        Component::Offset(x) => number(rt, x),
+        Component::Thickness(x) => number(rt, x),
         Component::Remap {
             from_min,
             from_max,
             to_min,
             to_max,
         } => {
-            number(from_min);
-            number(from_max);
-            number(to_min);
-            number(to_max);
+            number(rt, from_min)?;
+            number(rt, from_max)?;
+            number(rt, to_min)?;
+            number(rt, to_max)
         }
-        _ => {}
+        _ => Ok(()),
     }
 }
 
-fn row(number: u64, kind: Kind) {
-    io::write_all(OUT, b"row ");
-    io::print_decimal(OUT, number);
-    io::write_all(OUT, b", ");
-    kind::print_name(OUT, kind);
+fn row(rt: &impl Print, number: u64, kind: Kind) -> io::Result<()> {
+    print!(rt; "row {number}, ")?;
+    kind::print_name(rt, kind)
 }
 
 // The row of that number has another answer. It is printed with its parameters, then its inputs.
-pub fn differs(rows: u64, kind: Kind, q: Question, recorded: u64, got: u64) {
-    row(rows, kind);
+pub fn differs(
+    rt: &impl Print,
+    rows: u64,
+    kind: Kind,
+    q: Question,
+    recorded: u64,
+    got: u64,
+) -> io::Result<()> {
+    row(rt, rows, kind)?;
     let component = q.component;
-    parameters(component);
-    io::write_all(OUT, b" of");
-    number(q.a);
-    number(q.b);
-    number(q.c);
-    io::write_all(OUT, b": ");
-    io::print_hex(OUT, recorded, 16);
-    io::write_all(OUT, b" recorded, got ");
-    io::print_hex(OUT, got, 16);
-    io::write_all(OUT, b"\n");
+    parameters(rt, component)?;
+    print!(rt; " of")?;
+    number(rt, q.a)?;
+    number(rt, q.b)?;
+    number(rt, q.c)?;
+    println!(rt; ": {recorded:016x} recorded, got {got:016x}")
 }
 
 // The row of that number has no answer.
-pub fn unread(rows: u64, kind: Kind) {
-    row(rows, kind);
-    io::write_all(OUT, b": unread\n");
+pub fn unread(rt: &impl Print, rows: u64, kind: Kind) -> io::Result<()> {
+    row(rt, rows, kind)?;
+    println!(rt; ": unread")
 }
 
-pub fn counts(t: Tally) {
-    io::write_all(OUT, b"rows ");
-    io::print_decimal(OUT, t.rows);
-    io::write_all(OUT, b", agreed ");
-    io::print_decimal(OUT, t.agreed);
-    io::write_all(OUT, b", differed ");
-    io::print_decimal(OUT, t.differed);
-    io::write_all(OUT, b", unread ");
-    io::print_decimal(OUT, t.unread);
-    io::write_all(OUT, b"\n");
+pub fn counts(rt: &impl Print, t: Tally) -> io::Result<()> {
+    println!(rt;
+        "rows {}, agreed {}, differed {}, unread {}",
+        t.rows, t.agreed, t.differed, t.unread
+    )
 }
 
-pub fn left() {
-    io::write_all(OUT, b"more answers than questions\n");
+pub fn left(rt: &impl Print) -> io::Result<()> {
+    println!(rt; "more answers than questions")
 }

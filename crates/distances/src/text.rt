@@ -1,4 +1,5 @@
 // A double as text for reading: six digits after the point, or a word where those say too little.
+use std::io;
 
 // A column of text that grows from its right end; what has no room is left out.
 #[derive(Clone, Copy)]
@@ -61,30 +62,29 @@ impl Column {
         column
     }
 
-    fn print(self) {
+    fn print(self, rt: &impl Print) -> io::Result<()> {
         let bytes = self.bytes;
-        io::write_all(1, &bytes);
+        rt.write_all(&bytes)
     }
 }
 
 // word, to the right of a column.
-fn print_word(word: &[u8]) {
+fn print_word(rt: &impl Print, word: &[u8]) -> io::Result<()> {
     let mut width = word.len();
     while width < 14 {
-        io::write_all(1, b" ");
+        rt.write_all(b" ")?;
         width = width + 1;
     }
-    io::write_all(1, word);
+    rt.write_all(word)
 }
 
 // n millionths.
-fn print_millionths(negative: bool, n: u64) {
+fn print_millionths(rt: &impl Print, negative: bool, n: u64) -> io::Result<()> {
     let column = Column::new().six_digits(n).push(b'.').digits(n / 1000000);
     if negative {
-        column.push(b'-').print();
-        return;
+        return column.push(b'-').print(rt);
     }
-    column.print();
+    column.print(rt)
 }
 
 // x in millionths, halves up; the largest u64 where that holds no such number.
@@ -98,49 +98,41 @@ fn millionths(x: f64) -> u64 {
     u64::MAX
 }
 
-fn print_either(negative: bool, minus: &[u8], plus: &[u8]) {
+fn print_either(rt: &impl Print, negative: bool, minus: &[u8], plus: &[u8]) -> io::Result<()> {
     if negative {
-        print_word(minus);
-        return;
+        return print_word(rt, minus);
     }
-    print_word(plus);
+    print_word(rt, plus)
 }
 
 // The number of that sign and size.
-fn print_size(negative: bool, size: f64) {
+fn print_size(rt: &impl Print, negative: bool, size: f64) -> io::Result<()> {
     if size == 0.0 {
-        print_millionths(negative, 0);
-        return;
+        return print_millionths(rt, negative, 0);
     }
     if size == 1.0 / 0.0 {
-        print_either(negative, b"-inf", b"inf");
-        return;
+        return print_either(rt, negative, b"-inf", b"inf");
     }
     let n = millionths(size);
     if n == 0 {
-        print_either(negative, b"-tiny", b"tiny");
-        return;
+        return print_either(rt, negative, b"-tiny", b"tiny");
     }
     if n >= 1000000000000 {
-        print_either(negative, b"-large", b"large");
-        return;
+        return print_either(rt, negative, b"-large", b"large");
     }
-    print_millionths(negative, n);
+    print_millionths(rt, negative, n)
 }
 
 // x in a column of 14, to the right.
-pub fn print(x: f64) {
+pub fn print(rt: &impl Print, x: f64) -> io::Result<()> {
     if x != x {
-        print_word(b"nan");
-        return;
+        return print_word(rt, b"nan");
     }
     if float::bits::bits_of(x) == 0x8000_0000_0000_0000 {
-        print_word(b"-0");
-        return;
+        return print_word(rt, b"-0");
     }
     if x < 0.0 {
-        print_size(true, -x);
-        return;
+        return print_size(rt, true, -x);
     }
-    print_size(false, x);
+    print_size(rt, false, x)
 }

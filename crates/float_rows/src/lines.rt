@@ -2,6 +2,7 @@
 use crate::report::Tally;
 use crate::row::Line;
 use crate::{report, row};
+use std::io;
 
 // The line that is being read, as far as it came, and what the lines before it gave. A row is shorter than 64 bytes,
 // so a line that fills them is none, whatever follows.
@@ -41,7 +42,7 @@ fn more(n: u64) -> u64 {
 }
 
 // One line more, in s.
-fn judged(mut t: Tally, s: &[u8]) -> Tally {
+fn judged(rt: &impl Print, mut t: Tally, s: &[u8]) -> io::Result<Tally> {
     t.rows = more(t.rows);
     match row::parsed(s) {
         Line::Row(r) => {
@@ -50,15 +51,15 @@ fn judged(mut t: Tally, s: &[u8]) -> Tally {
                 t.agreed = more(t.agreed);
             } else {
                 t.differed = more(t.differed);
-                report::differs(t.rows, s, got);
+                report::differs(rt, t.rows, s, got)?;
             }
         }
         Line::Unread => {
             t.unread = more(t.unread);
-            report::unread(t.rows, s);
+            report::unread(rt, t.rows, s)?;
         }
     }
-    t
+    Ok(t)
 }
 
 fn first(s: &[u8], n: usize) -> &[u8] {
@@ -66,37 +67,37 @@ fn first(s: &[u8], n: usize) -> &[u8] {
 }
 
 // The line's end.
-fn closed(s: State) -> State {
+fn closed(rt: &impl Print, s: State) -> io::Result<State> {
     let line = s.line;
-    let tally = judged(s.tally, first(&line, s.len));
-    State {
+    let tally = judged(rt, s.tally, first(&line, s.len))?;
+    Ok(State {
         line,
         len: 0,
         tally,
-    }
+    })
 }
 
 // The state after the bytes s.
-pub fn fed(state: State, s: &[u8]) -> State {
+pub fn fed(rt: &impl Print, state: State, s: &[u8]) -> io::Result<State> {
     let mut now = state;
     let mut i = 0;
     while i < s.len() {
         let b = s[i];
         if b == b'\n' {
-            now = closed(now);
+            now = closed(rt, now)?;
         } else {
             now = now.with(b);
         }
         i += 1;
     }
-    now
+    Ok(now)
 }
 
 // What the lines gave, with the last where no line end follows it.
-pub fn ended(s: State) -> Tally {
+pub fn ended(rt: &impl Print, s: State) -> io::Result<Tally> {
     if s.len == 0 {
-        return s.tally;
+        return Ok(s.tally);
     }
-    let t = closed(s);
-    t.tally
+    let t = closed(rt, s)?;
+    Ok(t.tally)
 }

@@ -6,19 +6,19 @@ mod report;
 mod row;
 
 use lines::State;
+use std::io::{self, Read};
 
-fn main() {
-    let mut buf = io::large_buffer();
+fn main(rt: HostRuntime) -> io::Result<()> {
+    let mut input = rt.reader();
+    let mut buf = [0; 65536];
     let mut state = State::new();
-    // nothing says that the input ends, so the turns are counted down
-    let mut turns = u64::MAX;
-    while turns > 0 {
-        let n = io::read_full(0, &mut buf);
+    // nothing says that the input ends, so the turns are counted
+    for _ in 0..u64::MAX {
+        let n = input.read(&mut buf)?;
         if n == 0 {
             break;
         }
-        state = lines::fed(state, &buf[..n]);
-        turns -= 1;
+        state = lines::fed(&rt, state, &buf[..n])?;
     }
-    report::counts(lines::ended(state));
+    report::counts(&rt, lines::ended(&rt, state)?)
 }

@@ -1,5 +1,5 @@
 // What is printed.
-const OUT: i32 = 1;
+use std::io;
 
 #[derive(Clone, Copy)]
 pub struct Tally {
@@ -10,33 +10,22 @@ pub struct Tally {
 }
 
 // The row s of that number has another answer.
-pub fn differs(number: u64, s: &[u8], got: u64) {
-    io::write_all(OUT, b"row ");
-    io::print_decimal(OUT, number);
-    io::write_all(OUT, b" differs: ");
-    io::write_all(OUT, s);
-    io::write_all(OUT, b" recorded, got ");
-    io::print_hex(OUT, got, 16);
-    io::write_all(OUT, b"\n");
+pub fn differs(rt: &impl Print, number: u64, s: &[u8], got: u64) -> io::Result<()> {
+    print!(rt; "row {number} differs: ")?;
+    rt.write_all(s)?;
+    println!(rt; " recorded, got {got:016x}")
 }
 
 // The row s of that number is none.
-pub fn unread(number: u64, s: &[u8]) {
-    io::write_all(OUT, b"row ");
-    io::print_decimal(OUT, number);
-    io::write_all(OUT, b" unread: ");
-    io::write_all(OUT, s);
-    io::write_all(OUT, b"\n");
+pub fn unread(rt: &impl Print, number: u64, s: &[u8]) -> io::Result<()> {
+    print!(rt; "row {number} unread: ")?;
+    rt.write_all(s)?;
+    println!(rt)
 }
 
-pub fn counts(t: Tally) {
-    io::write_all(OUT, b"rows ");
-    io::print_decimal(OUT, t.rows);
-    io::write_all(OUT, b", agreed ");
-    io::print_decimal(OUT, t.agreed);
-    io::write_all(OUT, b", differed ");
-    io::print_decimal(OUT, t.differed);
-    io::write_all(OUT, b", unread ");
-    io::print_decimal(OUT, t.unread);
-    io::write_all(OUT, b"\n");
+pub fn counts(rt: &impl Print, t: Tally) -> io::Result<()> {
+    println!(rt;
+        "rows {}, agreed {}, differed {}, unread {}",
+        t.rows, t.agreed, t.differed, t.unread
+    )
 }

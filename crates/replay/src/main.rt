@@ -5,10 +5,9 @@
 use model::implicit_model::Model;
 use script::answers;
 use spelling::words;
+use std::io::{self, Read};
 use tag::bytes::same_bytes;
 use word_writing::{put_byte, put_decimal};
-
-const OUT: i32 = 1;
 
 // How many answers were held to the Rust's, and how many of them are the same, differ as told, or are not explained.
 #[derive(Clone, Copy)]
@@ -30,15 +29,15 @@ struct State {
     tally: Tally,
 }
 
-fn print(s: &[u8]) {
-    io::write_all(OUT, s);
-    io::write_all(OUT, b"\n");
+fn print(rt: &impl Print, s: &[u8]) -> io::Result<()> {
+    rt.write_all(s)?;
+    println!(rt)
 }
 
-fn print_number(n: usize) {
+fn print_number(rt: &impl Print, n: usize) -> io::Result<()> {
     let mut digits = [0u8; 24];
     let k = put_decimal(&mut digits, 0, n);
-    io::write_all(OUT, words::part(&digits, 1, k));
+    rt.write_all(words::part(&digits, 1, k))
 }
 
 // One more; a count stays at the largest.
@@ -47,14 +46,14 @@ fn more(n: usize) -> usize {
 }
 
 // An answer that nothing explains: which one, and what ours is.
-fn unexplained(t: Tally, ours: &[u8]) -> Tally {
-    io::write_all(OUT, b"answer ");
-    print_number(t.answers);
-    io::write_all(OUT, b" is not explained, ours is ");
-    print(ours);
+fn unexplained(rt: &impl Print, t: Tally, ours: &[u8]) -> io::Result<Tally> {
+    print!(rt; "answer ")?;
+    print_number(rt, t.answers)?;
+    print!(rt; " is not explained, ours is ")?;
+    print(rt, ours)?;
     let mut k = t;
     k.unexplained = more(t.unexplained);
-    k
+    Ok(k)
 }
 
 // The Rust's answer to the last command.
@@ -72,28 +71,28 @@ fn held_to(state: State, answer: &[u8], ours: &[u8]) -> State {
 }
 
 // What ours has to be, where the Rust's is another. A departure that is not there is not explained either.
-fn told(state: State, answer: &[u8], ours: &[u8]) -> State {
+fn told(rt: &impl Print, state: State, answer: &[u8], ours: &[u8]) -> io::Result<State> {
     let mut s = state;
     let mut t = s.tally;
     if s.open & same_bytes(answer, ours) {
         t.told = more(t.told);
     } else {
-        t = unexplained(t, ours);
+        t = unexplained(rt, t, ours)?;
     }
     s.tally = t;
     s.open = false;
-    s
+    Ok(s)
 }
 
 // Ahead of the next command, or at the end: an answer that differs and has no class.
-fn settled(state: State, ours: &[u8]) -> State {
+fn settled(rt: &impl Print, state: State, ours: &[u8]) -> io::Result<State> {
     let mut s = state;
     if s.open {
         let t = s.tally;
-        s.tally = unexplained(t, ours);
+        s.tally = unexplained(rt, t, ours)?;
         s.open = false;
     }
-    s
+    Ok(s)
 }
 
 // A command: our answer to it.
@@ -108,27 +107,38 @@ fn run(state: State, line: &[u8], out: &mut [u8]) -> State {
 }
 
 // A line's end: the state after it. The word behind `= ` starts at 2, and so does the class behind `! `.
-fn closed(state: State, line: &[u8], out: &mut [u8]) -> State {
+fn closed(rt: &impl Print, state: State, line: &[u8], out: &mut [u8]) -> io::Result<State> {
     let end = line.len();
     if end == 0 {
-        return state;
+        return Ok(state);
     }
     if words::begins(line, b'#') {
-        return state;
+        return Ok(state);
     }
     let ours = words::part(out, 0, state.len);
     if words::begins(line, b'=') {
-        return held_to(state, words::part(line, 2, end), ours);
+        return Ok(held_to(state, words::part(line, 2, end), ours));
     }
     if words::begins(line, b'!') {
-        return told(state, words::part(line, words::next(line, 2), end), ours);
+        return told(
+            rt,
+            state,
+            words::part(line, words::next(line, 2), end),
+            ours,
+        );
     }
-    let s = settled(state, ours);
-    run(s, line, out)
+    let s = settled(rt, state, ours)?;
+    Ok(run(s, line, out))
 }
 
 // The state after the bytes s.
-fn fed(state: State, s: &[u8], line: &mut [u8], out: &mut [u8]) -> State {
+fn fed(
+    rt: &impl Print,
+    state: State,
+    s: &[u8],
+    line: &mut [u8],
+    out: &mut [u8],
+) -> io::Result<State> {
     let mut k = state;
     let mut held = state.held;
     let mut i: usize = 0;
@@ -136,25 +146,25 @@ fn fed(state: State, s: &[u8], line: &mut [u8], out: &mut [u8]) -> State {
         let b = s[i];
         i += 1;
         if b == b'\n' {
-            k = closed(k, words::part(line, 0, held), out);
+            k = closed(rt, k, words::part(line, 0, held), out)?;
             held = 0;
         } else {
             held = put_byte(line, held, b);
         }
     }
     k.held = held;
-    k
+    Ok(k)
 }
 
-fn report(t: Tally) {
-    print_number(t.answers);
-    io::write_all(OUT, b" answers of the Rust: ");
-    print_number(t.same);
-    io::write_all(OUT, b" the same, ");
-    print_number(t.told);
-    io::write_all(OUT, b" differ as docs/DIFFERENCES.md says, ");
-    print_number(t.unexplained);
-    print(b" unexplained");
+fn report(rt: &impl Print, t: Tally) -> io::Result<()> {
+    print_number(rt, t.answers)?;
+    print!(rt; " answers of the Rust: ")?;
+    print_number(rt, t.same)?;
+    print!(rt; " the same, ")?;
+    print_number(rt, t.told)?;
+    print!(rt; " differ as docs/DIFFERENCES.md says, ")?;
+    print_number(rt, t.unexplained)?;
+    println!(rt; " unexplained")
 }
 
 // Nothing run and nothing counted.
@@ -175,22 +185,21 @@ fn start() -> State {
     }
 }
 
-fn main() {
-    let mut buf = io::buffer();
-    let mut line = io::large_buffer();
-    let mut out = io::large_buffer();
+fn main(rt: HostRuntime) -> io::Result<()> {
+    let mut input = rt.reader();
+    let mut buf = [0; 4096];
+    let mut line = [0; 65536];
+    let mut out = [0; 65536];
     let mut state = start();
-    // nothing says that the input ends, so the turns are counted down
-    let mut turns = u64::MAX;
-    while turns > 0 {
-        let n = io::read_full(0, &mut buf);
+    // nothing says that the input ends, so the turns are counted
+    for _ in 0..u64::MAX {
+        let n = input.read(&mut buf)?;
         if n == 0 {
             break;
         }
-        state = fed(state, &buf[..n], &mut line, &mut out);
-        turns -= 1;
+        state = fed(&rt, state, &buf[..n], &mut line, &mut out)?;
     }
-    state = settled(state, words::part(&out, 0, state.len));
+    state = settled(&rt, state, words::part(&out, 0, state.len))?;
     let t = state.tally;
-    report(t);
+    report(&rt, t)
 }

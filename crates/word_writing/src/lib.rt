@@ -3,6 +3,7 @@
 
 pub mod kind;
 
+use itoa::Buffer;
 use model::implicit_model::Place;
 use tag::Tag;
 
@@ -36,18 +37,19 @@ fn glyph(d: u8) -> u8 {
 
 // A space and a decimal number.
 pub fn put_decimal(out: &mut [u8], n: usize, number: usize) -> usize {
-    let mut digits = [0u8; 20];
-    let k = io::decimal(number as u64, &mut digits);
+    let mut digits = Buffer::new();
     let s = put(out, n, b" ");
-    put(out, s, &digits[..k])
+    put(out, s, digits.format(number).as_bytes())
 }
 
 // A space and the 64 bits of a float.
 pub fn put_bits(out: &mut [u8], n: usize, bits: u64) -> usize {
-    let mut digits = [0u8; 16];
-    let k = io::hex(bits, 16, &mut digits);
-    let s = put(out, n, b" ");
-    put(out, s, &digits[..k])
+    let mut k = put(out, n, b" ");
+    for b in bits.to_be_bytes() {
+        k = put_byte(out, k, glyph(b / 16));
+        k = put_byte(out, k, glyph(b));
+    }
+    k
 }
 
 // A space and a tag: two hexadecimal digits a byte, `.` for the empty one.

@@ -5,7 +5,7 @@ use lib.ListN.{length}
 use Rattle.cases.proofs.fed.Given as goal
 
 abbrev pub invariant-loop-i : goal.invariant-loop-i
-invariant-loop-i l = (length l.line ≡ length l.initial.line) × (length l.out ≡ length l.initial.out)
+invariant-loop-i g l = (length l.line ≡ length l.initial.line) × (length l.out ≡ length l.initial.out)
 
 abbrev pub decreases-loop-i : goal.decreases-loop-i
-decreases-loop-i l = length l.s - l.i
+decreases-loop-i g l = length l.s - l.i

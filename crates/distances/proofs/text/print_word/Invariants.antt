@@ -3,7 +3,7 @@ use Rattle.std.proofs.Common.{◌-◌}
 use Rattle.distances.proofs.text.print_word.Given as goal
 
 abbrev pub invariant-loop-width : goal.invariant-loop-width
-invariant-loop-width l = Unit
+invariant-loop-width g l = Unit
 
 abbrev pub decreases-loop-width : goal.decreases-loop-width
-decreases-loop-width l = 14 - width
+decreases-loop-width g l = 14 - l.width

@@ -5,7 +5,7 @@ use lib.ListN.{length}
 use Rattle.word_writing.proofs.kind.put_component.Given as goal
 
 abbrev pub invariant-loop-i : goal.invariant-loop-i
-invariant-loop-i l = length l.out ≡ length l.n
+invariant-loop-i l = length l.out ≡ length l.initial.out
 
 abbrev pub decreases-loop-i : goal.decreases-loop-i
-decreases-loop-i l = l.initial.k - l.i
+decreases-loop-i l = l.count - l.i
