@@ -10,8 +10,8 @@ use model::model_error::ModelError;
 use protocol::arguments::Arguments;
 use protocol::command::Command;
 use record::writing::put_record;
+use spelling::line_words;
 use spelling::text::{Text, first};
-use spelling::words;
 use tag::Tag;
 use tag::bytes::same_bytes;
 use word_writing::{put, put_bits, put_decimal, put_tag};
@@ -105,7 +105,7 @@ fn coordinates(out: &mut [u8], v: Vec3) -> usize {
 
 // An operator on vectors.
 fn vec3(out: &mut [u8], r: Arguments, line: &[u8]) -> usize {
-    let w = words::word(line, r.chosen);
+    let w = line_words::word(line, r.chosen);
     let a = r.first_vec3();
     let b = r.second_vec3();
     if same_bytes(w, b"add") {

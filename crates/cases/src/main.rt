@@ -4,7 +4,7 @@
 
 use model::implicit_model::Model;
 use script::answers;
-use spelling::words;
+use spelling::line_words;
 use std::io::{self, Read};
 use word_writing::put_byte;
 
@@ -25,12 +25,12 @@ fn closed(rt: &impl Print, m: Model, line: &[u8], out: &mut [u8]) -> io::Result<
     if line.len() == 0 {
         return Ok(m);
     }
-    if words::begins(line, b'#') {
+    if line_words::begins(line, b'#') {
         print(rt, line)?;
         return Ok(m);
     }
     let a = answers::answer(m, line, out);
-    print(rt, words::part(out, 0, a.len))?;
+    print(rt, line_words::part(out, 0, a.len))?;
     Ok(a.model)
 }
 
@@ -49,7 +49,7 @@ fn fed(
         let b = s[i];
         i += 1;
         if b == b'\n' {
-            m = closed(rt, m, words::part(line, 0, held), out)?;
+            m = closed(rt, m, line_words::part(line, 0, held), out)?;
             held = 0;
         } else {
             held = put_byte(line, held, b);

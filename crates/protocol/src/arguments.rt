@@ -6,7 +6,7 @@ use geometry::vec3f::Vec3;
 use spelling::kind::KindWord;
 use spelling::number::Spelled;
 use spelling::text::{Text, text_of};
-use spelling::{kind, number, words};
+use spelling::{kind, line_words, number};
 use tag::bytes::same_bytes;
 
 // What is read so far, where the next word starts, and whether every word was what it has to be.
@@ -50,9 +50,9 @@ impl Arguments {
     // A tag or a name. A fifth one is read and not kept.
     pub fn tag(self, line: &[u8]) -> Arguments {
         let at = self.at;
-        let t = text_of(words::word(line, at));
+        let t = text_of(line_words::word(line, at));
         let mut r = self;
-        r.at = words::next(line, at);
+        r.at = line_words::next(line, at);
         if !t.read {
             return r.bad();
         }
@@ -67,9 +67,9 @@ impl Arguments {
     // A float by its bits.
     pub fn number(self, line: &[u8]) -> Arguments {
         let at = self.at;
-        let s = number::bits(words::word(line, at));
+        let s = number::bits(line_words::word(line, at));
         let mut r = self;
-        r.at = words::next(line, at);
+        r.at = line_words::next(line, at);
         let Spelled::Number(bits) = s else {
             return r.bad();
         };
@@ -99,9 +99,9 @@ impl Arguments {
     // An index or a count.
     pub fn decimal(self, line: &[u8]) -> Arguments {
         let at = self.at;
-        let s = number::decimal(words::word(line, at));
+        let s = number::decimal(line_words::word(line, at));
         let mut r = self;
-        r.at = words::next(line, at);
+        r.at = line_words::next(line, at);
         let Spelled::Number(n) = s else {
             return r.bad();
         };
@@ -113,14 +113,14 @@ impl Arguments {
     fn choice(mut self, line: &[u8]) -> Arguments {
         let at = self.at;
         self.chosen = at;
-        self.at = words::next(line, at);
+        self.at = line_words::next(line, at);
         self
     }
 
     // A kind with its numbers.
     pub fn component(self, line: &[u8]) -> Arguments {
         let r = self.choice(line);
-        let k = kind::named(words::word(line, r.chosen));
+        let k = kind::named(line_words::word(line, r.chosen));
         let KindWord::Of(c) = k else {
             return r.bad();
         };
@@ -146,9 +146,9 @@ impl Arguments {
     // The inputs of a new operation, given or not.
     pub fn inputs(self, line: &[u8]) -> Arguments {
         let at = self.at;
-        let w = words::word(line, at);
+        let w = line_words::word(line, at);
         let mut r = self;
-        r.at = words::next(line, at);
+        r.at = line_words::next(line, at);
         if same_bytes(w, b"none") {
             return r;
         }
@@ -175,7 +175,7 @@ impl Arguments {
     // The data of a parameter.
     pub fn data(self, line: &[u8]) -> Arguments {
         let r = self.choice(line);
-        let w = words::word(line, r.chosen);
+        let w = line_words::word(line, r.chosen);
         if same_bytes(w, b"value") {
             return r.number(line);
         }
@@ -191,7 +191,7 @@ impl Arguments {
     // An operator on vectors with its numbers.
     pub fn operator(self, line: &[u8]) -> Arguments {
         let r = self.choice(line);
-        let w = words::word(line, r.chosen);
+        let w = line_words::word(line, r.chosen);
         if same_bytes(w, b"scale") {
             return r.numbers(line, 4);
         }
@@ -209,7 +209,7 @@ impl Arguments {
 
     // The component that was read.
     pub fn read_component(self, line: &[u8]) -> Component {
-        let k = kind::named(words::word(line, self.chosen));
+        let k = kind::named(line_words::word(line, self.chosen));
         let n = self.numbers;
         if let KindWord::Of(c) = k {
             return kind::with_numbers(c, n);
@@ -219,7 +219,7 @@ impl Arguments {
 
     // The data that was read.
     pub fn read_data(self, line: &[u8]) -> Data {
-        let w = words::word(line, self.chosen);
+        let w = line_words::word(line, self.chosen);
         if same_bytes(w, b"vec3") {
             let v = self.first_vec3();
             return Data::Vec3(v);

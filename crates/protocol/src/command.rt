@@ -1,6 +1,6 @@
 // The commands by their names, and what arguments each takes.
 use crate::arguments::Arguments;
-use spelling::words;
+use spelling::line_words;
 use tag::bytes::same_bytes;
 
 #[derive(Clone, Copy)]
@@ -106,7 +106,7 @@ fn read_change(c: Command, r: Arguments, line: &[u8]) -> Arguments {
 
 // The arguments of a command. The record of `load` is read on its own.
 pub fn read(c: Command, line: &[u8]) -> Arguments {
-    let r = Arguments::from(words::next(line, 0));
+    let r = Arguments::from(line_words::next(line, 0));
     match c {
         Command::New => r,
         Command::Compile => r.tag(line),

@@ -3,8 +3,8 @@ use crate::writing::no_place;
 use edit::rows::{with_entry, with_list};
 use model::implicit_model::{ComponentEntry, InputList, Model, Place};
 use protocol::arguments::Arguments;
+use spelling::line_words;
 use spelling::text::text_of;
-use spelling::words;
 use tag::bytes::same_bytes;
 
 // What is read so far, where the next word starts, and whether every word was what it has to be.
@@ -53,8 +53,8 @@ fn place_of(w: &[u8]) -> PlaceRead {
 
 // The number behind a word that is the one wanted.
 fn count_after(line: &[u8], at: usize, wanted: &[u8]) -> Arguments {
-    let r = Arguments::from(words::next(line, at)).decimal(line);
-    if same_bytes(words::word(line, at), wanted) {
+    let r = Arguments::from(line_words::next(line, at)).decimal(line);
+    if same_bytes(line_words::word(line, at), wanted) {
         return r;
     }
     r.bad()
@@ -62,15 +62,15 @@ fn count_after(line: &[u8], at: usize, wanted: &[u8]) -> Arguments {
 
 // The default, behind its word.
 fn with_default(m: Model, line: &[u8], at: usize) -> Loading {
-    let here = words::next(line, at);
-    let p = place_of(words::word(line, here));
-    let known = same_bytes(words::word(line, at), b"default");
+    let here = line_words::next(line, at);
+    let p = place_of(line_words::word(line, here));
+    let known = same_bytes(line_words::word(line, at), b"default");
     let d = p.place;
     let mut k = m;
     k.default = d;
     Loading {
         good: known & p.good,
-        at: words::next(line, here),
+        at: line_words::next(line, here),
         model: k,
     }
 }
@@ -115,12 +115,12 @@ fn with_places(l: ListRead, line: &[u8]) -> ListRead {
         if !good {
             return ListRead { good, at, list };
         }
-        let p = place_of(words::word(line, at));
+        let p = place_of(line_words::word(line, at));
         let place = p.place;
         if i < 3 {
             list.places[i] = place;
         }
-        at = words::next(line, at);
+        at = line_words::next(line, at);
         good = p.good;
         i += 1;
     }
@@ -175,7 +175,7 @@ pub fn load(line: &[u8], at: usize) -> Loading {
     let d = with_default(empty, line, at);
     let c = with_components(d, line);
     let mut l = with_lists(c, line);
-    if !words::is_over(line, l.at) {
+    if !line_words::is_over(line, l.at) {
         l.good = false;
     }
     l

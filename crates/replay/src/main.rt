@@ -4,7 +4,7 @@
 
 use model::implicit_model::Model;
 use script::answers;
-use spelling::words;
+use spelling::line_words;
 use std::io::{self, Read};
 use tag::bytes::same_bytes;
 use word_writing::{put_byte, put_decimal};
@@ -37,7 +37,7 @@ fn print(rt: &impl Print, s: &[u8]) -> io::Result<()> {
 fn print_number(rt: &impl Print, n: usize) -> io::Result<()> {
     let mut digits = [0u8; 24];
     let k = put_decimal(&mut digits, 0, n);
-    rt.write_all(words::part(&digits, 1, k))
+    rt.write_all(line_words::part(&digits, 1, k))
 }
 
 // One more; a count stays at the largest.
@@ -112,18 +112,18 @@ fn closed(rt: &impl Print, state: State, line: &[u8], out: &mut [u8]) -> io::Res
     if end == 0 {
         return Ok(state);
     }
-    if words::begins(line, b'#') {
+    if line_words::begins(line, b'#') {
         return Ok(state);
     }
-    let ours = words::part(out, 0, state.len);
-    if words::begins(line, b'=') {
-        return Ok(held_to(state, words::part(line, 2, end), ours));
+    let ours = line_words::part(out, 0, state.len);
+    if line_words::begins(line, b'=') {
+        return Ok(held_to(state, line_words::part(line, 2, end), ours));
     }
-    if words::begins(line, b'!') {
+    if line_words::begins(line, b'!') {
         return told(
             rt,
             state,
-            words::part(line, words::next(line, 2), end),
+            line_words::part(line, line_words::next(line, 2), end),
             ours,
         );
     }
@@ -146,7 +146,7 @@ fn fed(
         let b = s[i];
         i += 1;
         if b == b'\n' {
-            k = closed(rt, k, words::part(line, 0, held), out)?;
+            k = closed(rt, k, line_words::part(line, 0, held), out)?;
             held = 0;
         } else {
             held = put_byte(line, held, b);
@@ -199,7 +199,7 @@ fn main(rt: HostRuntime) -> io::Result<()> {
         }
         state = fed(&rt, state, &buf[..n], &mut line, &mut out)?;
     }
-    state = settled(&rt, state, words::part(&out, 0, state.len))?;
+    state = settled(&rt, state, line_words::part(&out, 0, state.len))?;
     let t = state.tally;
     report(&rt, t)
 }

@@ -7,7 +7,7 @@ use protocol::arguments::Arguments;
 use protocol::command;
 use protocol::command::Command;
 use record::loading::load;
-use spelling::words;
+use spelling::line_words;
 use tag::Tag;
 use word_writing::{put, put_tag};
 
@@ -67,7 +67,7 @@ fn done(out: &mut [u8], m: Model, c: Command, r: Arguments, line: &[u8]) -> Answ
 
 // The record of `load`.
 fn loaded(out: &mut [u8], m: Model, line: &[u8]) -> Answered {
-    let l = load(line, words::next(line, 0));
+    let l = load(line, line_words::next(line, 0));
     if l.good {
         let k = l.model;
         return replaced(out, k);
@@ -77,13 +77,13 @@ fn loaded(out: &mut [u8], m: Model, line: &[u8]) -> Answered {
 
 // A line run on a model, its answer written into `out`.
 pub fn answer(m: Model, line: &[u8], out: &mut [u8]) -> Answered {
-    let c = command::named(words::word(line, 0));
+    let c = command::named(line_words::word(line, 0));
     match c {
         Command::Nothing => no_command(out, m),
         Command::Load => loaded(out, m, line),
         _ => {
             let r = command::read(c, line);
-            if r.good & words::is_over(line, r.at) {
+            if r.good & line_words::is_over(line, r.at) {
                 return done(out, m, c, r, line);
             }
             no_command(out, m)

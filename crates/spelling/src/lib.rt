@@ -2,6 +2,6 @@
 #![tactic(auto)]
 
 pub mod kind;
+pub mod line_words;
 pub mod number;
 pub mod text;
-pub mod words;

@@ -1,7 +1,7 @@
 -- `words::end` is safe and ends: the loop's measure is what is left of the line. Assumes nothing.
 use Prim.Native.Nat.{◌-◌}
 use lib.ListN.{length}
-use Rattle.spelling.proofs.words.end.Given as goal
+use Rattle.spelling.proofs.line_words.end.Given as goal
 
 abbrev pub invariant-loop-i : goal.invariant-loop-i
 invariant-loop-i l = Unit {0}
