@@ -21,10 +21,10 @@ returns-then-list_row_of-lt128 c = nothing-renamed
 pub returns : goal.returns
 returns c =
     λ h. record {
-  passing = c.stands.ensures c.if-not-stands.false;
-  short = omega arith;
-  short_new = omega arith;
-  free = c.component_row_of.ensures.missing (omega arith);
-  free-list = c.list_row_of.ensures.missing (omega arith);
-  row = c.component_row_of-2.ensures;
-}
+      passing = c.stands.ensures c.if-not-stands.false;
+      short = omega arith;
+      short_new = omega arith;
+      free = c.component_row_of.ensures.missing (omega arith);
+      free-list = c.list_row_of.ensures.missing (omega arith);
+      row = c.component_row_of-2.ensures;
+    }

@@ -8,6 +8,6 @@ use Rattle.edit.proofs.refuse_plain.Goals as goal
 pub returns : goal.returns
 returns c =
     record {
-  model = c.refuse.ensures.model;
-  answer = c.refuse.ensures.answer ∙ ap (λ (t : Tag). refused (number_of c.args.e) t 0) c.empty_tag-t.ensures.labelled.bytes;
-}
+      model = c.refuse.ensures.model;
+      answer = c.refuse.ensures.answer ∙ ap (λ (t : Tag). refused (number_of c.args.e) t 0) c.empty_tag-t.ensures.labelled.bytes;
+    }

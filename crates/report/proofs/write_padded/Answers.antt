@@ -23,8 +23,7 @@ bounds-out-i c =
 
 pub loop-i-preserved : goal.loop-i-preserved
 loop-i-preserved c =
-    let text : List ℕ = padded (bytes_of c.args.t) in
-    (
+    let text : List ℕ = padded (bytes_of c.args.t) in (
       omega arith,
       ap (λ (l : List ℕ). set l (24 + c.loop-i.i) c.byte_of.result) c.loop-i.invariant.1
           ∙ ap (set (paste c.args.out.now 24 (text) c.loop-i.i) (24 + c.loop-i.i)) c.byte_of.ensures

@@ -15,13 +15,12 @@ pub start-line-requires : goal.start-line-requires
 start-line-requires c = c.requires
 
 pub walk-init : goal.walk-init
-walk-init c =
-    (
-      subst Sound (sym c.start-line.ensures) (sound-start c.args.from c.requires),
-      omega (arith, ap (λ (x : Line). x.tail) c.start-line.ensures),
-      (λ h. subst (λ (x : Line). Going c.args.m c.args.target c.args.from x 0) (sym c.start-line.ensures) (going_start c.args.m c.args.target c.args.from h)),
-      refl,
-    )
+walk-init c = (
+  subst Sound (sym c.start-line.ensures) (sound-start c.args.from c.requires),
+  omega (arith, ap (λ (x : Line). x.tail) c.start-line.ensures),
+  (λ h. subst (λ (x : Line). Going c.args.m c.args.target c.args.from x 0) (sym c.start-line.ensures) (going_start c.args.m c.args.target c.args.from h)),
+  refl,
+)
 
 pub offset_bounds-m-r : goal.offset_bounds-m-r
 offset_bounds-m-r c =

@@ -35,8 +35,8 @@ overflow_add-root c = omega (arith, root_lt _ _ _ _ _ c.loop-i.invariant)
 pub loop-i-preserved : goal.loop-i-preserved
 loop-i-preserved c =
     elim c.if-more-trial.branch [
-      then-more-trial w ↦ rw (w.root-is, w.rem-is) (step_no _ _ _ _ _ c.loop-i.invariant c.loop-i-test.true w.if-more-trial.true)
-    | else-more-trial w ↦ rw (w.root-is, w.rem-is) (step_yes _ _ _ _ _ c.loop-i.invariant c.loop-i-test.true w.if-more-trial.false)
+      | then-more-trial w ↦ rw (w.root-is, w.rem-is) (step_no _ _ _ _ _ c.loop-i.invariant c.loop-i-test.true w.if-more-trial.true)
+      | else-more-trial w ↦ rw (w.root-is, w.rem-is) (step_yes _ _ _ _ _ c.loop-i.invariant c.loop-i-test.true w.if-more-trial.false)
     ]
 
 pub overflow_add-result : goal.overflow_add-result

@@ -41,13 +41,13 @@ returns-then-o c =
     let small : node_of c.args.m (bytes_of c.args.t) < 192 = subst (λ z. z < 192) (c.target_node-x.ensures c.requires.0) c.if-x-ge192.false in
     let laid : LaysOut c.wires-w.result (node_of c.args.m (bytes_of c.args.t)) c.lay_out-o.result.at c.lay_out-o.result.n c.lay_out-o.result.done c.lay_out-o.result.whole c.lay_out-o.result.seen = subst (λ z. LaysOut c.wires-w.result z c.lay_out-o.result.at c.lay_out-o.result.n c.lay_out-o.result.done c.lay_out-o.result.whole c.lay_out-o.result.seen) (c.target_node-x.ensures c.requires.0) (c.lay_out-o.ensures c.if-x-ge192.false) in
     let formed : Formed no_list c.args.m (bytes_of c.args.t) c.resolve-found.result c.wires-w.result c.lay_out-o.result.at c.lay_out-o.result.n c.lay_out-o.result.whole c.lay_out-o.result.seen = record {
-  fits = c.requires.0;
-  short = c.requires.1;
-  node = small;
-  resolved = c.resolve-found.ensures c.requires.0;
-  wires = subst (λ z. Wired c.resolve-found.result z c.wires-w.result) c.at_most.ensures c.wires-w.ensures;
-  laid = subst (λ z. LaysOut c.wires-w.result (node_of c.args.m (bytes_of c.args.t)) c.lay_out-o.result.at c.lay_out-o.result.n z c.lay_out-o.result.whole c.lay_out-o.result.seen) (not-false c.lay_out-o.result.done c.if-not-o.false) (laid);
-} in
+      fits = c.requires.0;
+      short = c.requires.1;
+      node = small;
+      resolved = c.resolve-found.ensures c.requires.0;
+      wires = subst (λ z. Wired c.resolve-found.result z c.wires-w.result) c.at_most.ensures c.wires-w.ensures;
+      laid = subst (λ z. LaysOut c.wires-w.result (node_of c.args.m (bytes_of c.args.t)) c.lay_out-o.result.at c.lay_out-o.result.n z c.lay_out-o.result.whole c.lay_out-o.result.seen) (not-false c.lay_out-o.result.done c.if-not-o.false) (laid);
+    } in
     formed_whole c.args.m (longs) (bytes_of c.args.t) c.resolve-found.result c.wires-w.result c.lay_out-o.result.at c.lay_out-o.result.n c.lay_out-o.result.whole c.lay_out-o.result.seen (formed) c.placed.result c.if-o.true c.placed.ensures
 
 pub placed_if_full-requires : goal.placed_if_full-requires
@@ -60,11 +60,11 @@ returns c =
     let small : node_of c.args.m (bytes_of c.args.t) < 192 = subst (λ z. z < 192) (c.target_node-x.ensures c.requires.0) c.if-x-ge192.false in
     let laid : LaysOut c.wires-w.result (node_of c.args.m (bytes_of c.args.t)) c.lay_out-o.result.at c.lay_out-o.result.n c.lay_out-o.result.done c.lay_out-o.result.whole c.lay_out-o.result.seen = subst (λ z. LaysOut c.wires-w.result z c.lay_out-o.result.at c.lay_out-o.result.n c.lay_out-o.result.done c.lay_out-o.result.whole c.lay_out-o.result.seen) (c.target_node-x.ensures c.requires.0) (c.lay_out-o.ensures c.if-x-ge192.false) in
     let formed : Formed no_list c.args.m (bytes_of c.args.t) c.resolve-found.result c.wires-w.result c.lay_out-o.result.at c.lay_out-o.result.n c.lay_out-o.result.whole c.lay_out-o.result.seen = record {
-  fits = c.requires.0;
-  short = c.requires.1;
-  node = small;
-  resolved = c.resolve-found.ensures c.requires.0;
-  wires = subst (λ z. Wired c.resolve-found.result z c.wires-w.result) c.at_most.ensures c.wires-w.ensures;
-  laid = subst (λ z. LaysOut c.wires-w.result (node_of c.args.m (bytes_of c.args.t)) c.lay_out-o.result.at c.lay_out-o.result.n z c.lay_out-o.result.whole c.lay_out-o.result.seen) (not-false c.lay_out-o.result.done c.if-not-o.false) (laid);
-} in
+      fits = c.requires.0;
+      short = c.requires.1;
+      node = small;
+      resolved = c.resolve-found.ensures c.requires.0;
+      wires = subst (λ z. Wired c.resolve-found.result z c.wires-w.result) c.at_most.ensures c.wires-w.ensures;
+      laid = subst (λ z. LaysOut c.wires-w.result (node_of c.args.m (bytes_of c.args.t)) c.lay_out-o.result.at c.lay_out-o.result.n z c.lay_out-o.result.whole c.lay_out-o.result.seen) (not-false c.lay_out-o.result.done c.if-not-o.false) (laid);
+    } in
     c.placed_if_full.ensures (bytes_of c.args.t) (subst (λ z. Formed no_list c.args.m (bytes_of c.args.t) c.resolve-found.result c.wires-w.result c.lay_out-o.result.at c.lay_out-o.result.n z c.lay_out-o.result.seen) c.if-o.false (formed))

@@ -41,15 +41,14 @@ loop-j-smaller c = omega (arith, c.loop-j.invariant.0, c.loop-j-test.true)
 
 pub loop-j-preserved : goal.loop-j-preserved
 loop-j-preserved c =
-    let long : length c.args.m.components ≡ 64 = c.well_formed.0.1.1.0.1.0.1 in
-    (
-  c.loop-j.invariant.0,
-  λ p. upto_more c.args.m c.loop-j.found c.loop-j.j c.if-v-ge195.v (c.loop-j.invariant.1 p) (omega (arith, c.loop-j.invariant.0, c.loop-j-test.true))
-      (elim c.if-v-ge195.branch [
-        then-v-ge195 y ↦ y.v-is ∙ settle_slow c.args.m (standing c.args.m p) (long) _ (c.loop-j.j % 4) c.slot_at-s.result c.slot_at-s.ensures c.guess-c.result c.at_most-held.result c.at_most-held.ensures c.settle-v.result c.settle-v.ensures y.if-v-ge195.true _ y.node_of-v.ensures
-      | else-v-ge195 y ↦ y.v-is ∙ settle_fast c.args.m (standing c.args.m p) (long) _ (c.loop-j.j % 4) c.slot_at-s.result c.slot_at-s.ensures c.guess-c.result c.at_most-held.result c.at_most-held.ensures c.settle-v.result c.settle-v.ensures y.if-v-ge195.false
-      ]),
-)
+    let long : length c.args.m.components ≡ 64 = c.well_formed.0.1.1.0.1.0.1 in (
+      c.loop-j.invariant.0,
+      λ p. upto_more c.args.m c.loop-j.found c.loop-j.j c.if-v-ge195.v (c.loop-j.invariant.1 p) (omega (arith, c.loop-j.invariant.0, c.loop-j-test.true))
+          (elim c.if-v-ge195.branch [
+            | then-v-ge195 y ↦ y.v-is ∙ settle_slow c.args.m (standing c.args.m p) (long) _ (c.loop-j.j % 4) c.slot_at-s.result c.slot_at-s.ensures c.guess-c.result c.at_most-held.result c.at_most-held.ensures c.settle-v.result c.settle-v.ensures y.if-v-ge195.true _ y.node_of-v.ensures
+            | else-v-ge195 y ↦ y.v-is ∙ settle_fast c.args.m (standing c.args.m p) (long) _ (c.loop-j.j % 4) c.slot_at-s.result c.slot_at-s.ensures c.guess-c.result c.at_most-held.result c.at_most-held.ensures c.settle-v.result c.settle-v.ensures y.if-v-ge195.false
+          ]),
+    )
 
 pub returns : goal.returns
 returns c p =
