@@ -13,7 +13,7 @@ NAME = re.compile(r'[^\s(){}\[\].;,@"«»]+')
 def parts(item):
     """The words by which an imported name can be used: an operator's symbols, or the name."""
     word = item.split()[-1]
-    return [it for it in word.split("◌") if it] if "◌" in word else [word]
+    return [it for it in word.split("◌") if it.strip("[]")] if "◌" in word else [word] if word.strip("[]") else []
 
 
 def thinned(text):

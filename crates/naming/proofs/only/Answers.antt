@@ -1,6 +1,6 @@
 -- `naming::only` meets its contract. Assumes nothing.
 use native.Mathlib.Omega.{arith}
-use mathlib.Core.List.{◌∷◌}
+use mathlib.Core.List.{[], ◌∷◌}
 use Rattle.naming.proofs.Arms.{past}
 use Rattle.naming.proofs.only.Goals as goal
 
