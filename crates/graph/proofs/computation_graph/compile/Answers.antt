@@ -25,7 +25,7 @@ ordered-requires c =
     let fits : passes c.args.m ≡ true = sym c.is_valid.ensures ∙ not-false c.is_valid.result c.if-not-is_valid.false-raw in
     let short : overlong c.args.target.now ≡ false = length-short c.args.target.now c.if-target-gt32.false in
     let whole : bytes_of c.tag_of-t.result ≡ c.args.target.now = c.tag_of-t.ensures.labelled.bytes ∙ short_whole c.args.target.now (short) in
-    (fits, ap overlong (whole (c)) ∙ short)
+    (fits, ap overlong whole ∙ short)
 
 pub returns : goal.returns
 returns c =
