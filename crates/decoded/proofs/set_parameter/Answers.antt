@@ -1,17 +1,9 @@
 -- `set_parameter` meets its contract. Assumes nothing.
-use borrow.Author.Rules.{rules}
 use mathlib.Core.Path.{ap}
 use Rattle.model.specs.Edit.{set_parameter}
 use Rattle.storing.proofs.Laws.Stored.{called}
 use Rattle.word_edits.proofs.Laws.Words.{meets_as}
 use Rattle.decoded.proofs.set_parameter.Goals as goal
-
-pub decode-d-requires : goal.decode-d-requires
-decode-d-requires c =
-    search rules
-
-data-of-requires : goal.Need-data-of-requires
-data-of-requires c κs = search rules
 
 pub returns : goal.returns
 returns c =

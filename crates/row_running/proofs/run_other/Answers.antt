@@ -49,4 +49,4 @@ returns-in-9 c = c.run_setting.ensures
 
 pub returns-in_default : goal.returns-in_default
 returns-in_default c =
-    no_edit _ _ c.args.which (sym c.requires.1.0) (λ h. let below : 8 ≤ c.args.which = missed 1 7 c.args.which h c.in_default.rest.0 in omega (arith, c.requires.1.1, c.in_default.rest.1))
+    no_edit _ _ c.args.which (sym c.requires.1.0) (λ h. let below : 8 ≤ c.args.which = missed 1 7 c.args.which h c.in_default.in_default-own.rest.0 in omega (arith, c.requires.1.1, c.in_default.in_default-own.rest.1))
