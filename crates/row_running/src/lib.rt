@@ -126,7 +126,7 @@ fn holds_row(s: &[u8], at: usize) -> bool
 // The row run, by its number. Where no whole row stands, nothing is run.
 pub fn run_row(m: Model, s: &[u8], at: usize, target: &[u8], place: usize) -> Run
     ensures stepped { at + 256 ≤ length s.now → Stepped s.now at m (tag_at target.now s.now place) result.model (tag_at target.now s.now result.place) }
-    ensures model_value { length s.now < at + 256 → (result.model ≡ m) × (result.place ≡ place) }
+    ensures unchanged { length s.now < at + 256 → (result.model ≡ m) × (result.place ≡ place) }
 {
     if !holds_row(s, at) {
         return Run { model: m, place };

@@ -13,14 +13,15 @@ stands : (k n : ℕ) → leb k n ≡ true → n < k → ⊥
 stands k n e h = omega (arith, h, leb-true k n e)
 
 pub returns-then-not-holds_row : goal.returns-then-not-holds_row
-returns-then-not-holds_row c = let a = c.args in (no_row a.s.now a.at (sym c.holds_row.ensures ∙ c.if-not-holds_row.true), λ h. (refl, refl))
+returns-then-not-holds_row c = let a = c.args in record { stepped = no_row a.s.now a.at (sym c.holds_row.ensures ∙ c.if-not-holds_row.true); unchanged = λ h. (refl, refl) }
 
 pub run_rename-requires : goal.run_rename-requires
 run_rename-requires c =
     (leb-true _ _ (sym c.holds_row.ensures ∙ c.if-not-holds_row.false), sym c.read_word-which.ensures ∙ c.if-which-eq8.true)
 
 pub returns-then-which-eq8 : goal.returns-then-which-eq8
-returns-then-which-eq8 c = (λ h. c.run_rename.ensures, λ h. absurd (stands _ _ (sym c.holds_row.ensures ∙ c.if-not-holds_row.false) h))
+returns-then-which-eq8 c =
+    record { stepped = λ h. c.run_rename.ensures; unchanged = λ h. absurd (stands _ _ (sym c.holds_row.ensures ∙ c.if-not-holds_row.false) h) }
 
 pub run_other-r-requires : goal.run_other-r-requires
 run_other-r-requires c =
@@ -28,4 +29,4 @@ run_other-r-requires c =
 
 pub returns : goal.returns
 returns c =
-    (λ h. stepped _ _ c.run_other-r.ensures, λ h. absurd (stands _ _ (sym c.holds_row.ensures ∙ c.if-not-holds_row.false) h))
+    record { stepped = λ h. stepped _ _ c.run_other-r.ensures; unchanged = λ h. absurd (stands _ _ (sym c.holds_row.ensures ∙ c.if-not-holds_row.false) h) }

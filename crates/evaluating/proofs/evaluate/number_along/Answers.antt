@@ -24,12 +24,12 @@ bounds-order-k c =
 pub offset_bounds-m-x : goal.offset_bounds-m-x
 offset_bounds-m-x c =
     let below : get_or c.args.g.order c.loop-k.k 0 < 64 = small c.args.m c.args.g c.args.n c.requires.count c.requires.target c.requires.compiled c.loop-k.k c.loop-k-test.true in
-    omega (arith, below (c))
+    omega (arith, below)
 
 pub bounds-m-x : goal.bounds-m-x
 bounds-m-x c =
     let below : get_or c.args.g.order c.loop-k.k 0 < 64 = small c.args.m c.args.g c.args.n c.requires.count c.requires.target c.requires.compiled c.loop-k.k c.loop-k-test.true in
-    below (c)
+    below
 
 pub overflow_mul-x : goal.overflow_mul-x
 overflow_mul-x c =
