@@ -7,4 +7,4 @@ use Rattle.decoded_adding.proofs.add_function.Goals as goal
 
 pub returns : goal.returns
 returns c =
-    called c.decode-read.ensures (meets_as (ap (add_function c.args.tag.now) c.Function-of.ensures) c.add_function-r.ensures) c.store.ensures
+    called c.decode-read.ensures (meets_as (ap (add_function c.args.tag.now) c.function_of-f.ensures) c.add_function-r.ensures) c.store.ensures

@@ -12,4 +12,4 @@ returns-then-tag-gt32 c = takes_no refl
 
 pub returns : goal.returns
 returns c =
-    let a = c.args in input_removed (c.stands.ensures c.if-not-stands.false) a.tag.now a.index _ c.if-tag-gt32.false c.IsPlace-in.ensures
+    let a = c.args in input_removed (c.stands.ensures c.if-not-stands.false) a.tag.now a.index _ c.if-tag-gt32.false c.place_in.ensures

@@ -5,7 +5,7 @@ use lib.ListN.{length}
 use Rattle.record.proofs.writing.put_list.Given as goal
 
 abbrev pub invariant-loop-i : goal.invariant-loop-i
-invariant-loop-i l = length l.out ≡ length l.n
+invariant-loop-i l = length l.out ≡ length l.initial.out
 
 abbrev pub decreases-loop-i : goal.decreases-loop-i
-decreases-loop-i l = l.named - l.i
+decreases-loop-i l = l.places - l.i

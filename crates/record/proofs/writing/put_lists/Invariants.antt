@@ -5,7 +5,7 @@ use lib.ListN.{length}
 use Rattle.record.proofs.writing.put_lists.Given as goal
 
 abbrev pub invariant-loop-i : goal.invariant-loop-i
-invariant-loop-i l = (length l.out ≡ length l.n) × (l.words ≤ 128)
+invariant-loop-i l = (length l.out ≡ length l.initial.out) × (l.held ≤ 128)
 
 abbrev pub decreases-loop-i : goal.decreases-loop-i
-decreases-loop-i l = l.words - l.i
+decreases-loop-i l = l.held - l.i
