@@ -26,4 +26,4 @@ returns-then-not-is_clear c = takes_no refl
 
 pub returns : goal.returns
 returns c =
-    let a = c.args in input_added (c.wired-standing.ensures c.if-not-standing.false) a.target.now a.source.now c.component_row_of-i.ensures c.component_row_of-k.ensures (omega arith) (omega arith) a.index _ c.if-target-gt32.false c.if-source-gt32.false (c.is_clear.ensures c.if-not-is_clear.false) c.tag_of-t.ensures c.place_in.ensures
+    let a = c.args in input_added (c.wired-standing.ensures (not-false _ c.if-not-standing.false)) a.target.now a.source.now c.component_row_of-i.ensures c.component_row_of-k.ensures (omega arith) (omega arith) a.index _ c.if-target-gt32.false c.if-source-gt32.false (c.is_clear.ensures c.if-not-is_clear.false) c.tag_of-t.ensures c.place_in.ensures

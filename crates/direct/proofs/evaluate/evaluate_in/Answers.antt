@@ -13,8 +13,8 @@ returns-then-t-ge64 c = no_yes
 
 pub number_along-v-requires : goal.number_along-v-requires
 number_along-v-requires c =
-    ((c.wired-standing.ensures c.if-not-standing.false).few, (c.line_of-l.ensures, omega (arith, c.if-t-ge64.false)))
+    ((c.wired-standing.ensures (not-false _ c.if-not-standing.false)).few, (c.line_of-l.ensures, omega (arith, c.if-t-ge64.false)))
 
 pub returns : goal.returns
 returns c =
-    λ e. answered (c.wired-standing.ensures c.if-not-standing.false) (c.component_of_tag-t.ensures (omega (arith, c.if-t-ge64.false))) (c.number_along-v.ensures e (c.wired-standing.ensures c.if-not-standing.false)) c.bits_of.ensures
+    λ e. answered (c.wired-standing.ensures (not-false _ c.if-not-standing.false)) (c.component_of_tag-t.ensures (omega (arith, c.if-t-ge64.false))) (c.number_along-v.ensures e (c.wired-standing.ensures (not-false _ c.if-not-standing.false))) c.bits_of.ensures
