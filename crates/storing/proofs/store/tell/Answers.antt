@@ -9,4 +9,4 @@ pub returns-in-Made : goal.returns-in-Made
 returns-in-Made c = told-made c.args.a c.in-Made.is c.tell_made.ensures
 
 pub returns-in-Refused : goal.returns-in-Refused
-returns-in-Refused c = told-refused c.args.a c.in-Refused.is c.number_of_lem.ensures c.wide.ensures c.write_report.ensures
+returns-in-Refused c = told-refused c.args.a c.in-Refused.is c.number_of-code.ensures c.wide.ensures c.write_report.ensures

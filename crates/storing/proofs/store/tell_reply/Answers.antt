@@ -7,4 +7,4 @@ returns-in-Number c = replied_number c.args.e c.in-Number.is (told-plain 0 _ c.e
 
 pub returns-in-Refused : goal.returns-in-Refused
 returns-in-Refused c =
-    replied_refused c.args.e c.in-Refused.is c.number_of_lem.ensures c.wide.ensures c.write_report-in-Refused.ensures
+    replied_refused c.args.e c.in-Refused.is c.number_of-code.ensures c.wide.ensures c.write_report-in-Refused.ensures
