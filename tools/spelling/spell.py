@@ -1,12 +1,13 @@
 #!/usr/bin/env python3
 """Spells this repository's own definitions and lemmas as the newer Rattle does: functions, lemmas and fields in snake case, with a dash only
-between two names of definitions, as in length-up_to.
+between two names of definitions, as in bytes_of-clamped.
 
 usage: spell.py [--check] [FOLDER]     FOLDER is the checkout, by default the current folder
 
 It follows port.py, which spells the library's names anew. Types, modules, names from Rust source and names that a library declares stay.
 Two names that would fall together both stay, and a line 'left:' says so. It rewrites crates/*/{specs,proofs,src,must-fail} and docs/*.md.
-A second run changes nothing.
+It is for a tree that port.py has just turned: a second run there changes nothing, but later proofs answer goals whose names the check makes,
+dashes and all, and those are not to be spelled anew.
 """
 import os
 import re
