@@ -21,8 +21,8 @@ returns-then-x-eq192 c =
     record { order = λ e. absurd (false≢true e); cyclic = λ e. going_stuck c.args.w.now c.args.t c.requires.0 c.requires.1 c.loop-placed.invariant c.next_ready-x.ensures (omega (arith, c.if-x-eq192.true)) c.loop-placed-test.true; fits = omega arith; at_length = c.loop-placed.invariant.at_length }
 
 pub offset_bounds-at-k : goal.offset_bounds-at-k
-offset_bounds-at-k c =
-    let h : c.loop-placed.k < 192 = going_room c.args.w.now c.args.t c.requires.0 c.requires.1 c.loop-placed.invariant c.next_ready-x.ensures (omega (arith, c.next_ready-x.ensures.within, c.if-x-eq192.false)) in omega arith
+offset_bounds-at-k c = let below : c.next_ready-x.result < 192 = omega (arith, c.next_ready-x.ensures.within, c.if-x-eq192.false) in
+    let h : c.loop-placed.k < 192 = going_room c.args.w.now c.args.t c.requires.0 c.requires.1 c.loop-placed.invariant c.next_ready-x.ensures (below) in omega arith
 
 pub bounds-at-k : goal.bounds-at-k
 bounds-at-k c =
@@ -32,12 +32,12 @@ pub bounds-placed-x : goal.bounds-placed-x
 bounds-placed-x c = (omega (arith, c.next_ready-x.ensures.within, c.if-x-eq192.false))
 
 pub overflow_add-k : goal.overflow_add-k
-overflow_add-k c =
-    let h : c.loop-placed.k < 192 = going_room c.args.w.now c.args.t c.requires.0 c.requires.1 c.loop-placed.invariant c.next_ready-x.ensures (omega (arith, c.next_ready-x.ensures.within, c.if-x-eq192.false)) in omega arith
+overflow_add-k c = let below : c.next_ready-x.result < 192 = omega (arith, c.next_ready-x.ensures.within, c.if-x-eq192.false) in
+    let h : c.loop-placed.k < 192 = going_room c.args.w.now c.args.t c.requires.0 c.requires.1 c.loop-placed.invariant c.next_ready-x.ensures (below) in omega arith
 
 pub loop-placed-smaller : goal.loop-placed-smaller
-loop-placed-smaller c =
-    let h : c.loop-placed.k < 192 = going_room c.args.w.now c.args.t c.requires.0 c.requires.1 c.loop-placed.invariant c.next_ready-x.ensures (omega (arith, c.next_ready-x.ensures.within, c.if-x-eq192.false)) in omega arith
+loop-placed-smaller c = let below : c.next_ready-x.result < 192 = omega (arith, c.next_ready-x.ensures.within, c.if-x-eq192.false) in
+    let h : c.loop-placed.k < 192 = going_room c.args.w.now c.args.t c.requires.0 c.requires.1 c.loop-placed.invariant c.next_ready-x.ensures (below) in omega arith
 
 pub loop-placed-preserved : goal.loop-placed-preserved
 loop-placed-preserved c =
