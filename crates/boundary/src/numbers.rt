@@ -1,9 +1,9 @@
 // The root and the two distances, for a host that checks or measures them. They touch no model.
+// Kept: C passes each measure as a number of its own.
 ghost use Rattle.std.specs.Prelude.{◌≡◌};
 ghost use Rattle.float.specs.RootOf.{root_of};
 ghost use Rattle.shapes.specs.Distance.{to_sphere, to_torus};
 
-use geometry::vec3f::Vec3;
 use shapes::sphere::Sphere;
 use shapes::torus::Torus;
 
@@ -16,28 +16,11 @@ pub fn dw_root(x: f64) -> f64
 pub fn dw_sphere(cx: f64, cy: f64, cz: f64, radius: f64, x: f64, y: f64, z: f64) -> f64
     ensures { result ≡ to_sphere (record { centre = record { x = cx; y = cy; z = cz }; radius = radius }) x y z }
 {
-    let s = Sphere {
-        centre: Vec3 {
-            x: cx,
-            y: cy,
-            z: cz,
-        },
-        radius,
-    };
-    s.eval(x, y, z)
+    Sphere::at_coord(cx, cy, cz, radius).eval(x, y, z)
 }
 
 pub fn dw_torus(cx: f64, cy: f64, cz: f64, r: f64, t: f64, x: f64, y: f64, z: f64) -> f64
     ensures { result ≡ to_torus (record { centre = record { x = cx; y = cy; z = cz }; r = r; t = t }) x y z }
 {
-    let s = Torus {
-        centre: Vec3 {
-            x: cx,
-            y: cy,
-            z: cz,
-        },
-        r,
-        t,
-    };
-    s.eval(x, y, z)
+    Torus::at_coord(cx, cy, cz, r, t).eval(x, y, z)
 }

@@ -20,19 +20,28 @@ const NUMBERS: [u64; 17] = [
 ];
 
 // The positions of each range's ends among the numbers.
-const LOWS: [usize; 12] = [0, 3, 6, 5, 9, 4, 10, 11, 1, 2, 15, 16];
-
-const HIGHS: [usize; 12] = [2, 4, 7, 6, 8, 0, 12, 13, 0, 2, 14, 7];
+const RANGES: [(usize, usize); 12] = [
+    (0, 2),
+    (3, 4),
+    (6, 7),
+    (5, 6),
+    (9, 8),
+    (4, 0),
+    (10, 12),
+    (11, 13),
+    (1, 0),
+    (2, 2),
+    (15, 14),
+    (16, 7),
+];
 
 // The numbers over and over.
 pub fn number(i: usize) -> f64 {
     float::bits::float_of(NUMBERS[i % 17])
 }
 
-pub fn low(i: usize) -> f64 {
-    number(LOWS[i % 12])
-}
-
-pub fn high(i: usize) -> f64 {
-    number(HIGHS[i % 12])
+// The ranges over and over.
+pub fn range(i: usize) -> (f64, f64) {
+    let (low, high) = RANGES[i % 12];
+    (number(low), number(high))
 }

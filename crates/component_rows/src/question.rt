@@ -1,28 +1,31 @@
-// A question: a component, a point and three input numbers.
+// A question: a component and three input numbers, which are the point too.
 use crate::kind::Kind;
-use crate::numbers::{high, low, number};
+use crate::numbers::{number, range};
 use component::model_component::Component;
+use float::bits::bits_of;
 use geometry::vec3f::Vec3;
 use shapes::sphere::Sphere;
 use shapes::torus::Torus;
+use std::fmt;
 
 #[derive(Clone, Copy)]
 pub struct Question {
-    pub component: Component,
-    pub p: Vec3,
-    pub a: f64,
-    pub b: f64,
-    pub c: f64,
+    component: Component,
+    a: f64,
+    b: f64,
+    c: f64,
 }
 
 fn of(component: Component, a: f64, b: f64, c: f64) -> Question {
-    let p = Vec3 { x: a, y: b, z: c };
-    Question {
-        component,
-        p,
-        a,
-        b,
-        c,
+    Question { component, a, b, c }
+}
+
+fn remap((from_min, from_max): (f64, f64), (to_min, to_max): (f64, f64)) -> Component {
+    Component::Remap {
+        from_min,
+        from_max,
+        to_min,
+        to_max,
     }
 }
 
@@ -33,60 +36,13 @@ fn case(n: usize) -> Question {
         1 => of(Component::BooleanDifference, -2.0, 1.0, 0.0),
         2 => of(Component::Thickness(2.0), -3.0, 0.0, 0.0),
         3 => of(Component::Lerp(0.25), 2.0, 6.0, 0.0),
-        4 => of(
-            Component::Remap {
-                from_min: 0.0,
-                from_max: 10.0,
-                to_min: 0.0,
-                to_max: 1.0,
-            },
-            5.0,
-            0.0,
-            0.0,
-        ),
-        _ => of(Component::BooleanUnion, 0.0 / 0.0, 7.0, 0.0),
-    }
-}
-
-fn sphere() -> Component {
-    let centre = Vec3 {
-        x: 0.25,
-        y: -1.0,
-        z: 2.0,
-    };
-    Component::Sphere(Sphere {
-        centre,
-        radius: 0.1,
-    })
-}
-
-fn torus() -> Component {
-    let centre = Vec3 {
-        x: 0.25,
-        y: -1.0,
-        z: 2.0,
-    };
-    Component::Torus(Torus {
-        centre,
-        r: 2.0,
-        t: 0.1,
-    })
-}
-
-// Every range onto every range.
-fn remap(n: usize) -> Component {
-    let from = n / 17;
-    let to = n / 204;
-    Component::Remap {
-        from_min: low(from),
-        from_max: high(from),
-        to_min: low(to),
-        to_max: high(to),
+        4 => of(remap((0.0, 10.0), (0.0, 1.0)), 5.0, 0.0, 0.0),
+        _ => of(Component::BooleanUnion, f64::NAN, 7.0, 0.0),
     }
 }
 
 // The nth question of a kind. The first 289 have all pairs of numbers as a and b, with c = 0, and the first 4913 all triples. A
-// parameter is the first of the three that is no input.
+// parameter is the first of the three that is no input. Remap has every range onto every range.
 pub fn nth(kind: Kind, n: usize) -> Question {
     let x = number(n);
     let y = number(n / 17);
@@ -94,15 +50,15 @@ pub fn nth(kind: Kind, n: usize) -> Question {
     let component = match kind {
         Kind::Case => return case(n),
         Kind::Constant => Component::Constant(x),
-        Kind::Sphere => sphere(),
-        Kind::Torus => torus(),
+        Kind::Sphere => Component::Sphere(Sphere::at_coord(0.25, -1.0, 2.0, 0.1)),
+        Kind::Torus => Component::Torus(Torus::at_coord(0.25, -1.0, 2.0, 2.0, 0.1)),
         Kind::Multiply => Component::Multiply,
         Kind::Add => Component::Add,
         Kind::Subtract => Component::Subtract,
         Kind::Divide => Component::Divide,
         Kind::Lerp => Component::Lerp(z),
         Kind::VariableLerp => Component::VariableLerp,
-        Kind::Remap => remap(n),
+        Kind::Remap => remap(range(n / 17), range(n / 204)),
         Kind::BooleanUnion => Component::BooleanUnion,
         Kind::BooleanIntersection => Component::BooleanIntersection,
         Kind::BooleanDifference => Component::BooleanDifference,
@@ -112,9 +68,39 @@ pub fn nth(kind: Kind, n: usize) -> Question {
     of(component, x, y, z)
 }
 
-// The bits of what the crate component answers.
-pub fn answered(q: Question) -> u64 {
-    let component = q.component;
-    let p = q.p;
-    float::bits::bits_of(component::model_component::compute(component, p, q.a, q.b, q.c))
+impl Question {
+    // The bits of what the crate component answers.
+    pub fn answered(self) -> u64 {
+        let point = Vec3::new(self.a, self.b, self.c);
+        bits_of(self.component.compute(point, self.a, self.b, self.c))
+    }
+}
+
+fn print<W: fmt::Write>(f: &mut fmt::Formatter<W>, x: f64) -> fmt::Result {
+    write!(f, " {:016x}", bits_of(x))
+}
+
+// The parameters of a component that has numbers as such, and the inputs.
+impl fmt::Display for Question {
+    fn fmt<W: fmt::Write>(&self, f: &mut fmt::Formatter<W>) -> fmt::Result {
+        match self.component {
+            Component::Lerp(x) | Component::Offset(x) | Component::Thickness(x) => print(f, x)?,
+            Component::Remap {
+                from_min,
+                from_max,
+                to_min,
+                to_max,
+            } => {
+                print(f, from_min)?;
+                print(f, from_max)?;
+                print(f, to_min)?;
+                print(f, to_max)?;
+            }
+            _ => {}
+        }
+        f.write_str(" of")?;
+        print(f, self.a)?;
+        print(f, self.b)?;
+        print(f, self.c)
+    }
 }

@@ -3,57 +3,61 @@
 
 mod text;
 
+use float::bits::{bits_of, float_of};
 use shapes::sphere::Sphere;
 use shapes::torus::Torus;
 use std::io;
+use text::readable;
 
-fn title(rt: &impl Print) -> io::Result<()> {
-    rt.write_all(b"Distance from a point to a shape: below 0 inside, 0 on its surface.\n")?;
-    rt.write_all(b"  sphere  centre (0, 0, 0), radius 1\n")?;
-    rt.write_all(b"  dot     centre (0, 0, 0), radius 0\n")?;
-    rt.write_all(b"  torus   centre (0, 0, 0), r 5, t 1, around the y axis\n\n")?;
-    rt.write_all(b"shape              x             y             z      distance  its 64 bits\n")
-}
+const TITLE: &str = "Distance from a point to a shape: below 0 inside, 0 on its surface.
+  sphere  centre (0, 0, 0), radius 1
+  dot     centre (0, 0, 0), radius 0
+  torus   centre (0, 0, 0), r 5, t 1, around the y axis
+
+shape              x             y             z      distance  its 64 bits";
 
 // One line of the table.
-fn line(rt: &impl Print, shape: &[u8], x: f64, y: f64, z: f64, distance: f64) -> io::Result<()> {
-    rt.write_all(shape)?;
-    text::print(rt, x)?;
-    text::print(rt, y)?;
-    text::print(rt, z)?;
-    text::print(rt, distance)?;
-    println!(rt; "  {:016x}", float::bits::bits_of(distance))
-}
-
-fn sphere(rt: &impl Print, x: f64, y: f64, z: f64) -> io::Result<()> {
-    let s = Sphere::at_coord(0.0, 0.0, 0.0, 1.0);
-    line(rt, b"sphere", x, y, z, s.eval(x, y, z))
-}
-
-fn dot(rt: &impl Print, x: f64, y: f64, z: f64) -> io::Result<()> {
-    let s = Sphere::at_coord(0.0, 0.0, 0.0, 0.0);
-    line(rt, b"dot   ", x, y, z, s.eval(x, y, z))
-}
-
-fn torus(rt: &impl Print, x: f64, y: f64, z: f64) -> io::Result<()> {
-    let s = Torus::at_coord(0.0, 0.0, 0.0, 5.0, 1.0);
-    line(rt, b"torus ", x, y, z, s.eval(x, y, z))
+fn line(
+    rt: &(impl Print + AllocGlobal),
+    shape: &str,
+    (x, y, z): (f64, f64, f64),
+    distance: f64,
+) -> io::Result<()> {
+    print!(rt; "{shape:6}")?;
+    for number in [x, y, z, distance] {
+        let text = readable(rt.alloc(), number)?;
+        print!(rt; "{text:>14}")?;
+    }
+    println!(rt; "  {:016x}", bits_of(distance))
 }
 
 fn main(rt: HostRuntime) -> io::Result<()> {
-    title(&rt)?;
-    sphere(&rt, 3.0, 4.0, 0.0)?;
-    sphere(&rt, 0.0, 1.0, 0.0)?;
-    sphere(&rt, 0.5, 0.0, 0.0)?;
-    sphere(&rt, 0.1, 0.1, 0.3)?;
-    sphere(&rt, 1.0 / 0.0, 0.0, 0.0)?;
-    sphere(&rt, 0.0 / 0.0, 0.0, 0.0)?;
+    println!(rt; "{TITLE}")?;
+    let sphere = Sphere::at_coord(0.0, 0.0, 0.0, 1.0);
+    for (x, y, z) in [
+        (3.0, 4.0, 0.0),
+        (0.0, 1.0, 0.0),
+        (0.5, 0.0, 0.0),
+        (0.1, 0.1, 0.3),
+        (f64::INFINITY, 0.0, 0.0),
+        (f64::NAN, 0.0, 0.0),
+    ] {
+        line(&rt, "sphere", (x, y, z), sphere.eval(x, y, z))?;
+    }
+    let dot = Sphere::at_coord(0.0, 0.0, 0.0, 0.0);
     // 2^-537, whose square 2^-1074 is the least double above 0
-    dot(&rt, float::bits::float_of(0x1E60_0000_0000_0000), 0.0, 0.0)?;
-    torus(&rt, 3.0, 0.0, 4.0)?;
-    torus(&rt, 5.0, 1.0, 0.0)?;
-    torus(&rt, 5.5, 0.0, 0.0)?;
-    torus(&rt, 0.0, 0.0, 0.0)?;
-    torus(&rt, -8.0, 2.5, 0.75)?;
-    torus(&rt, 5.0, 0.0, 0.0 / 0.0)
+    let x = float_of(0x1E60_0000_0000_0000);
+    line(&rt, "dot", (x, 0.0, 0.0), dot.eval(x, 0.0, 0.0))?;
+    let torus = Torus::at_coord(0.0, 0.0, 0.0, 5.0, 1.0);
+    for (x, y, z) in [
+        (3.0, 0.0, 4.0),
+        (5.0, 1.0, 0.0),
+        (5.5, 0.0, 0.0),
+        (0.0, 0.0, 0.0),
+        (-8.0, 2.5, 0.75),
+        (5.0, 0.0, f64::NAN),
+    ] {
+        line(&rt, "torus", (x, y, z), torus.eval(x, y, z))?;
+    }
+    Ok(())
 }

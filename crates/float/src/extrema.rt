@@ -2,45 +2,37 @@
 ghost use Rattle.std.specs.Prelude.{◌≡◌};
 ghost use Rattle.float.specs.Extrema.{minimum_number, maximum_number};
 
+// Both numbers, the lesser first.
+fn ordered(a: f64, b: f64) -> (f64, f64)
+    ensures { result ≡ (minimum_number a b, maximum_number a b) }
+{
+    if a.is_nan() {
+        return (b, b);
+    }
+    if b.is_nan() {
+        return (a, a);
+    }
+    if a < b {
+        return (a, b);
+    }
+    if b < a {
+        return (b, a);
+    }
+    // equal numbers differ at most in the sign of a zero
+    if a.is_sign_negative() {
+        return (a, b);
+    }
+    (b, a) // -0 and +0 where they differ
+}
+
 pub fn min(a: f64, b: f64) -> f64
     ensures { result ≡ minimum_number a b }
 {
-    if a != a {
-        return b;
-    }
-    if b != b {
-        return a;
-    }
-    if a < b {
-        return a;
-    }
-    if b < a {
-        return b;
-    }
-    // equal numbers differ at most in the sign of a zero
-    if f64::to_bits(a) < 0x8000_0000_0000_0000 {
-        return b; // -0 where either is
-    }
-    a
+    ordered(a, b).0
 }
 
 pub fn max(a: f64, b: f64) -> f64
     ensures { result ≡ maximum_number a b }
 {
-    if a != a {
-        return b;
-    }
-    if b != b {
-        return a;
-    }
-    if a < b {
-        return b;
-    }
-    if b < a {
-        return a;
-    }
-    if f64::to_bits(a) < 0x8000_0000_0000_0000 {
-        return a; // +0 where either is
-    }
-    b
+    ordered(a, b).1
 }

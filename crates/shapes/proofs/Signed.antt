@@ -2,19 +2,10 @@
 use mathlib.Core.Path.{◌≡◌, refl}
 use mathlib.Core.Bool.{Bool, true, false, cond}
 use lib.IntN.{pos}
-use lib.Ieee.{Float, fin, binary64, of_bits, neg, lt}
+use lib.Ieee.{Float, fin, neg, lt}
 use Rattle.float.specs.RootOf.{root_of}
 use Rattle.shapes.specs.Distance.{signed_root}
 use Rattle.shapes.specs.Signed.{signed_like}
-
-module _ (s r : Float) where
-  pub below-zero : lt s (of_bits binary64 0) ≡ true → neg r ≡ signed_like s r
-  unfolding signed_like of_bits
-  below-zero h = simp h refl
-
-  pub not_below : lt s (of_bits binary64 0) ≡ false → r ≡ signed_like s r
-  unfolding signed_like of_bits
-  not_below h = simp h refl
 
 module _ (s : Float) where
   either : (b : Bool) → cond b (neg (root_of (cond b (neg s) s))) (root_of (cond b (neg s) s)) ≡ cond b (neg (root_of (neg s))) (root_of s)

@@ -14,28 +14,21 @@ impl Sphere {
     pub fn new(centre: Vec3, radius: f64) -> Sphere
         ensures { result ≡ record { centre = centre; radius = radius } }
     {
-        Sphere {
-            centre: centre,
-            radius: radius,
-        }
+        Sphere { centre, radius }
     }
 
     // A sphere around (x, y, z).
     pub fn at_coord(x: f64, y: f64, z: f64, radius: f64) -> Sphere
         ensures { result ≡ record { centre = record { x = x; y = y; z = z }; radius = radius } }
     {
-        let centre = Vec3::new(x, y, z);
-        Sphere {
-            centre: centre,
-            radius: radius,
-        }
+        Sphere::new(Vec3::new(x, y, z), radius)
     }
 
     // The distance from (x, y, z) to this sphere: below 0 inside.
+    #[tactic(auto, unfolding(crate::specs::Distance::to_sphere))]
     pub fn eval(self, x: f64, y: f64, z: f64) -> f64
         ensures { result ≡ to_sphere self x y z }
     {
-        let centre = self.centre;
-        centre.distance_to_coord(x, y, z) - self.radius
+        self.centre.distance_to_coord(x, y, z) - self.radius
     }
 }

@@ -3,6 +3,7 @@ ghost use Rattle.std.specs.Prelude.{◌≡◌};
 ghost use Rattle.shapes.specs.Distance.{signed_root, to_torus};
 ghost use Rattle.shapes.specs.Signed.{signed_like};
 
+use float::root::root;
 use geometry::vec3f::Vec3;
 
 #[derive(Clone, Copy)]
@@ -12,14 +13,8 @@ pub struct Torus {
     pub t: f64,
 }
 
-// s without its sign where it is below 0.
-fn unsigned(s: f64) -> f64
-    ensures { result ≡ signed_like s s }
-{
-    if s < 0.0 { -s } else { s }
-}
-
 // r, with its sign turned where s is below 0.
+#[tactic(auto, unfolding(crate::specs::Signed::signed_like))]
 fn signed_like(s: f64, r: f64) -> f64
     ensures { result ≡ signed_like s r }
 {
@@ -27,36 +22,29 @@ fn signed_like(s: f64, r: f64) -> f64
 }
 
 // The root of s; where s is below 0, minus the root of -s. One root for both, so that the machine need not guess the sign.
+#[tactic(auto, using(crate::proofs::Signed::one_root))]
 fn signed_root(s: f64) -> f64
     ensures { result ≡ signed_root s }
 {
-    signed_like(s, float::root::root(unsigned(s)))
+    signed_like(s, root(signed_like(s, s)))
 }
 
 impl Torus {
     pub fn new(centre: Vec3, r: f64, t: f64) -> Torus
         ensures { result ≡ record { centre = centre; r = r; t = t } }
     {
-        Torus {
-            centre: centre,
-            r: r,
-            t: t,
-        }
+        Torus { centre, r, t }
     }
 
     // A torus around (x, y, z).
     pub fn at_coord(x: f64, y: f64, z: f64, r: f64, t: f64) -> Torus
         ensures { result ≡ record { centre = record { x = x; y = y; z = z }; r = r; t = t } }
     {
-        let centre = Vec3::new(x, y, z);
-        Torus {
-            centre: centre,
-            r: r,
-            t: t,
-        }
+        Torus::new(Vec3::new(x, y, z), r, t)
     }
 
     // The distance from (x, y, z) to this torus: below 0 inside.
+    #[tactic(auto, unfolding(crate::specs::Distance::to_torus))]
     pub fn eval(self, x: f64, y: f64, z: f64) -> f64
         ensures { result ≡ to_torus self x y z }
     {
@@ -64,7 +52,7 @@ impl Torus {
         let a = x - centre.x;
         let b = y - centre.y;
         let c = z - centre.z;
-        let d = self.r - float::root::root(a * a + c * c);
+        let d = self.r - root(a * a + c * c);
         let t = self.t;
         signed_root(d * d + b * b - t * t)
     }

@@ -1,17 +1,9 @@
 // The product of two words.
 ghost use Rattle.std.specs.Prelude.{◌≡◌, ◌*◌, ◌/◌, ◌^◌};
 
-// The upper word of u * v, from the products of their halves, column by column. The compiler makes the machine's
-// own product of these lines, as they are.
+// The upper word of u * v.
 pub fn high_product(u: u64, v: u64) -> u64
     ensures { result ≡ u * v / 2 ^ 64 }
 {
-    let u0 = u & 0xffff_ffff;
-    let u1 = u >> 32;
-    let v0 = v & 0xffff_ffff;
-    let v1 = v >> 32;
-    let w0 = u0 * v0;
-    let t = u1 * v0 + (w0 >> 32);
-    let w1 = (t & 0xffff_ffff) + u0 * v1;
-    u1 * v1 + (t >> 32) + (w1 >> 32)
+    (u128::from(u) * u128::from(v) >> 64) as u64
 }

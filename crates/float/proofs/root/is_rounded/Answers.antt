@@ -1,17 +1,9 @@
 -- `float::root::is_rounded` meets its contract: `Laws/Guess.antt`. Assumes nothing.
 use mathlib.Core.Path.{subst}
-use Prim.Native.Nat.{ℕ, ◌/◌, ◌≤◌, ◌<◌}
-use native.Mathlib.Omega.{arith}
-use borrow.Author.Rules.{rules}
+use Prim.Native.Nat.{ℕ, ◌≤◌, ◌<◌}
 use lib.Dec.{leb→le}
 use Rattle.float.proofs.Laws.Guess.{is_rounded}
 use Rattle.float.proofs.root.is_rounded.Goals as goal
-
-room : (u : ℕ) → u < 18446744073709551616 → u / 1024 < 18014398509481984
-room u h = omega arith
-
-pub overflow_add-v : goal.overflow_add-v
-overflow_add-v c = search (rules, room c.args.u c.ranges.u.fits)
 
 pub returns-then-high_product-a : goal.returns-then-high_product-a
 returns-then-high_product-a c =
@@ -19,6 +11,3 @@ returns-then-high_product-a c =
     is_rounded c.args.a c.args.u c.requires.0 c.requires.1
     (subst (λ (n : ℕ). n < c.args.a) c.high_product.ensures c.if-high_product-a.true)
     (subst (λ (n : ℕ). c.args.a ≤ n) c.high_product-then-high_product-a.ensures (leb→le c.args.a c.high_product-then-high_product-a.result t))
-
-pub returns : goal.returns
-returns c = λ t. absurd t

@@ -3,28 +3,13 @@ use mathlib.Core.Path.{subst}
 use Prim.Native.Nat.{ℕ, ◌<◌}
 use native.Mathlib.Omega.{arith}
 use Rattle.float.specs.Pattern.{RootPattern}
-use Rattle.float.proofs.Laws.Normal.{z_ge, z_le, low_ge, low_lt, low_same, high_same}
+use Rattle.float.proofs.Laws.Normal.{z_ge, low_ge, low_lt, low_same, high_same}
 use Rattle.float.proofs.root.pattern.Goals as goal
 
 pub overflow_sub-s : goal.overflow_sub-s
 overflow_sub-s c =
     let small : c.args.b < 4503599627370496 = omega arith in
     omega (arith, z_ge c.args.b c.requires.0 (small))
-
-pub overflow_cast-s : goal.overflow_cast-s
-overflow_cast-s c =
-    let small : c.args.b < 4503599627370496 = omega arith in
-    omega (arith, z_le c.args.b c.requires.0 (small))
-
-pub overflow_shl-b : goal.overflow_shl-b
-overflow_shl-b c =
-    let small : c.args.b < 4503599627370496 = omega arith in
-    omega (arith, z_le c.args.b c.requires.0 (small))
-
-pub overflow_sub-s-then-e-eq0 : goal.overflow_sub-s-then-e-eq0
-overflow_sub-s-then-e-eq0 c =
-    let small : c.args.b < 4503599627370496 = omega arith in
-    omega (arith, z_le c.args.b c.requires.0 (small))
 
 pub placed-requires : goal.placed-requires
 placed-requires c =

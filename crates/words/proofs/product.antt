@@ -1,2 +1,0 @@
--- What `high_product`'s proof uses: lemmas on plain numbers.
-mod Columns
