@@ -1,5 +1,5 @@
 -- Document 01, "The value of one operation": how many inputs each kind takes, and its value on their numbers. Definitions only.
-use Rattle.std.specs.Prelude.{ℕ, Bool, true, false, pos, Float}
+use Rattle.std.specs.Prelude.{ℕ, false, pos, Float}
 use Rattle.std.specs.Float.{fin}
 use Rattle.std.specs.Float.Ieee.{neg}
 use Rattle.float.specs.Extrema.{minimum_number, maximum_number}

@@ -1,30 +1,12 @@
-// The operations on numbers. Each step is rounded once, in the written order.
+// The operations on numbers of more than one step. Each step is rounded once, in the written order.
 ghost use Rattle.std.specs.Prelude.{◌≡◌};
+ghost use Rattle.std.specs.Float.Ieee.{neg};
+ghost use Rattle.float.specs.Extrema.{maximum_number};
 ghost use Rattle.geometry.specs.Operations.{◌⊕◌, ◌⊖◌, ◌⊗◌, ◌⊘◌};
+ghost use Rattle.component.specs.Value.{two};
 
-pub fn multiply(a: f64, b: f64) -> f64
-    ensures { result ≡ a ⊗ b }
-{
-    a * b
-}
-
-pub fn add(a: f64, b: f64) -> f64
-    ensures { result ≡ a ⊕ b }
-{
-    a + b
-}
-
-pub fn subtract(a: f64, b: f64) -> f64
-    ensures { result ≡ a ⊖ b }
-{
-    a - b
-}
-
-pub fn divide(a: f64, b: f64) -> f64
-    ensures { result ≡ a ⊘ b }
-{
-    a / b
-}
+use crate::range::Range;
+use float::extrema::max;
 
 pub fn lerp(factor: f64, a: f64, b: f64) -> f64
     ensures { result ≡ a ⊕ factor ⊗ (b ⊖ a) }
@@ -32,15 +14,17 @@ pub fn lerp(factor: f64, a: f64, b: f64) -> f64
     a + factor * (b - a)
 }
 
-pub fn variable_lerp(a: f64, b: f64, c: f64) -> f64
-    ensures { result ≡ a ⊕ c ⊗ (b ⊖ a) }
+pub fn remap(from: Range, to: Range, a: f64) -> f64
+    ensures { result ≡ to.min ⊕ (a ⊖ from.min) ⊘ (from.max ⊖ from.min) ⊗ (to.max ⊖ to.min) }
 {
-    a + c * (b - a)
+    let normalized = (a - from.min) / (from.max - from.min);
+    lerp(normalized, to.min, to.max)
 }
 
-pub fn remap(from_min: f64, from_max: f64, to_min: f64, to_max: f64, a: f64) -> f64
-    ensures { result ≡ to_min ⊕ (a ⊖ from_min) ⊘ (from_max ⊖ from_min) ⊗ (to_max ⊖ to_min) }
+// A wall of thickness t around the surface where a is 0.
+pub fn thickness(t: f64, a: f64) -> f64
+    ensures { result ≡ maximum_number (a ⊖ t ⊘ two) (neg (a ⊕ t ⊘ two)) }
 {
-    let normalized = (a - from_min) / (from_max - from_min);
-    to_min + normalized * (to_max - to_min)
+    let half = t / 2.0;
+    max(a - half, -(a + half))
 }

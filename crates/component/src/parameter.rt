@@ -12,12 +12,11 @@ pub enum Data {
     Boolean(bool),
 }
 
-// What a parameter takes; nothing, where there is no such parameter.
-#[derive(Clone, Copy)]
+// What a parameter takes.
+#[derive(Clone, Copy, Debug, PartialEq, Eq)]
 pub enum DataType {
     Value,
     Vec3,
-    Nothing,
 }
 
 #[derive(Clone, Copy)]
@@ -26,29 +25,23 @@ pub struct Parameter {
     pub data_type: DataType,
 }
 
-// The difference between 1 and the next double, 2 ^ -52.
-const EPSILON: f64 = 2.220446049250313e-16;
+// Why a parameter is not set: the component has none of that name and type, or the number lies too near its partner.
+#[derive(Clone, Copy, Debug, PartialEq, Eq)]
+pub enum ParameterError {
+    DoesNotFit,
+    TooNear,
+}
 
-// A factor within 0 and 1. The tests let NaN and -0 pass.
+// A factor within 0 and 1. NaN and -0 pass.
 pub fn clamped(factor: f64) -> f64
     ensures { result ≡ clamped factor }
 {
-    if factor < 0.0 {
-        return 0.0;
-    }
-    if 1.0 < factor {
-        return 1.0;
-    }
-    factor
+    factor.clamp(0.0, 1.0)
 }
 
 // Whether a and b differ by less than 2 ^ -52 in size.
 pub fn too_near(a: f64, b: f64) -> bool
     ensures { result ≡ too_near a b }
 {
-    let d = a - b;
-    if d < 0.0 {
-        return -d < EPSILON;
-    }
-    d < EPSILON
+    (a - b).abs() < f64::EPSILON
 }

@@ -1,4 +1,3 @@
--- `Laws`: of kinds. `Numbers`, `Examples`: components as words.
-pub mod Laws
+-- `Numbers`, `Examples`: components as words.
 mod Numbers
 pub mod Examples

@@ -5,7 +5,7 @@ use mathlib.Core.Option.{some}
 use lib.Ieee.{Float, binary64, of_bits, to_bits}
 use Rattle.component.specs.declared.model_component.Component.{Component}
 use Rattle.component.specs.declared.model_component.Component.TheVariants.{Constant, Sphere, Torus, Multiply, Add, Subtract, Divide, Lerp, VariableLerp, Remap, BooleanUnion, BooleanIntersection, BooleanDifference, Offset, Thickness}
-use Rattle.component_layout.specs.declared.component_numbers.Numbers.{Numbers}
+use Rattle.component_layout.specs.declared.component_numbers.Numbered.{Numbered}
 use Rattle.component_layout.specs.Components.{component_of, component_from}
 use Rattle.component_layout.specs.Numbers.{numbers_of, words_for, words_of, Worded}
 
@@ -32,10 +32,10 @@ numbers_back (Thickness t) = refl
 abbrev Bits : ℕ → Float → Type 0
 Bits w x = (w ≡ to_bits binary64 x) × (of_bits binary64 w ≡ x)
 
-pub worded : (x : Component) {n : Numbers} {a b c d e : ℕ} → n ≡ numbers_of x → Bits a n.a → Bits b n.b → Bits c n.c → Bits d n.d → Bits e n.e
+pub worded : (x : Component) {n : Numbered Float} {a b c d e : ℕ} → n ≡ numbers_of x → Bits a n.a → Bits b n.b → Bits c n.c → Bits d n.d → Bits e n.e
     → Worded x (record { kind = n.kind; a = a; b = b; c = c; d = d; e = e })
 unfolding words_of component_from
 worded x {n} p q r s t u = record {
   words = rw (q.0, r.0, s.0, t.0, u.0) (ap words_for p);
-  back = rw (q.1, r.1, s.1, t.1, u.1) (ap (λ (m : Numbers). component_of m.kind m.a m.b m.c m.d m.e) p ∙ numbers_back x);
+  back = rw (q.1, r.1, s.1, t.1, u.1) (ap (λ (m : Numbered Float). component_of m.kind m.a m.b m.c m.d m.e) p ∙ numbers_back x);
 }

@@ -1,5 +1,5 @@
 -- A component, and what a parameter is set to, as a kind and numbers. Definitions only.
-use Rattle.std.specs.Prelude.{ℕ, true, false, List, [], ◌∷◌, get_or, Float}
+use Rattle.std.specs.Prelude.{ℕ, true, false, List, [], ◌∷◌, get_or, Float, Option as Found, Some, None}
 use Rattle.std.proofs.Math.Option.{Option, none, some}
 use Rattle.std.specs.Float.{binary64}
 use Rattle.std.specs.Float.Ieee.{of_bits}
@@ -7,10 +7,6 @@ use Rattle.component.specs.declared.model_component.Component.{Component}
 use Rattle.component.specs.declared.model_component.Component.TheVariants.{Constant, Sphere, Torus, Multiply, Add, Subtract, Divide, Lerp, VariableLerp, Remap, BooleanUnion, BooleanIntersection, BooleanDifference, Offset, Thickness}
 use Rattle.component.specs.declared.parameter.Data.{Data}
 use Rattle.component.specs.declared.parameter.Data.TheVariants.{Value, Vec3 as Vector, Boolean}
-use Rattle.component_layout.specs.declared.component_words.ComponentRead.{ComponentRead}
-use Rattle.component_layout.specs.declared.component_words.ComponentRead.TheVariants.{Component as Is, NoComponent}
-use Rattle.component_layout.specs.declared.component_words.DataRead.{DataRead}
-use Rattle.component_layout.specs.declared.component_words.DataRead.TheVariants.{Data as Holds, NoData}
 
 -- the components by kind, 0 to 14, whose numbers are a, b, c, d, e in their sequence
 abbrev pub kinds : Float → Float → Float → Float → Float → List (Option Component)
@@ -58,10 +54,10 @@ unfoldable pub data_from : ℕ → ℕ → ℕ → ℕ → Option Data
 data_from kind a b c = get_or (settings a b c) kind none
 
 -- what the code found
-abbrev pub component_read : ComponentRead → Option Component
-component_read (Is c) = some c
-component_read NoComponent = none
+abbrev pub component_read : Found Component → Option Component
+component_read (Some c) = some c
+component_read None = none
 
-abbrev pub data_read : DataRead → Option Data
-data_read (Holds d) = some d
-data_read NoData = none
+abbrev pub data_read : Found Data → Option Data
+data_read (Some d) = some d
+data_read None = none

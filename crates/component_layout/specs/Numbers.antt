@@ -5,29 +5,28 @@ use Rattle.std.specs.Float.{binary64}
 use Rattle.std.specs.Float.Ieee.{of_bits, to_bits}
 use Rattle.component.specs.declared.model_component.Component.{Component}
 use Rattle.component.specs.declared.model_component.Component.TheVariants.{Constant, Sphere, Torus, Multiply, Add, Subtract, Divide, Lerp, VariableLerp, Remap, BooleanUnion, BooleanIntersection, BooleanDifference, Offset, Thickness}
-use Rattle.component_layout.specs.declared.component_numbers.Numbers.{Numbers}
-use Rattle.component_layout.specs.declared.component_numbers.ComponentWords.{ComponentWords}
+use Rattle.component_layout.specs.declared.component_numbers.Numbered.{Numbered}
 use Rattle.component_layout.specs.Components.{component_from}
 
 -- a number that a kind does not use: +0, whose word is 0
 abbrev pub unused : Float
 unused = of_bits binary64 0
 
-abbrev pub five : ℕ → Float → Float → Float → Float → Float → Numbers
+abbrev pub five : ℕ → Float → Float → Float → Float → Float → Numbered Float
 five kind a b c d e = record { kind = kind; a = a; b = b; c = c; d = d; e = e }
 
 -- a kind with four, one or no numbers
-abbrev pub four : ℕ → Float → Float → Float → Float → Numbers
+abbrev pub four : ℕ → Float → Float → Float → Float → Numbered Float
 four kind a b c d = five kind a b c d unused
 
-abbrev pub one : ℕ → Float → Numbers
+abbrev pub one : ℕ → Float → Numbered Float
 one kind a = four kind a unused unused unused
 
-abbrev pub plain : ℕ → Numbers
+abbrev pub plain : ℕ → Numbered Float
 plain kind = one kind unused
 
 -- the numbers from which `component_of` has the component
-unfoldable pub numbers_of : Component → Numbers
+unfoldable pub numbers_of : Component → Numbered Float
 numbers_of (Constant v) = one 0 v
 numbers_of (Sphere s) = four 1 s.centre.x s.centre.y s.centre.z s.radius
 numbers_of (Torus t) = five 2 t.centre.x t.centre.y t.centre.z t.r t.t
@@ -48,13 +47,13 @@ numbers_of (Thickness t) = one 14 t
 abbrev pub bits_of : Float → ℕ
 bits_of x = to_bits binary64 x
 
-abbrev pub words_for : Numbers → ComponentWords
+abbrev pub words_for : Numbered Float → Numbered ℕ
 words_for n = record { kind = n.kind; a = bits_of n.a; b = bits_of n.b; c = bits_of n.c; d = bits_of n.d; e = bits_of n.e }
 
-unfoldable pub words_of : Component → ComponentWords
+unfoldable pub words_of : Component → Numbered ℕ
 words_of c = words_for (numbers_of c)
 
 -- w are the words of the component, from which it is read back
-pub record Worded (c : Component) (w : ComponentWords) : Type 0 where
+pub record Worded (c : Component) (w : Numbered ℕ) : Type 0 where
   pub words : w ≡ words_of c
   pub back : component_from w.kind w.a w.b w.c w.d w.e ≡ some c

@@ -2,77 +2,86 @@
 ghost use Rattle.std.specs.Prelude.{◌≡◌};
 ghost use Rattle.std.specs.Float.Ieee as Ieee;
 ghost use Rattle.std.specs.Float.{binary64};
-ghost use Rattle.component_layout.specs.Numbers.{numbers_of, Worded};
+ghost use Rattle.component_layout.specs.Numbers.{four, one, plain, numbers_of, Worded};
 
 use component::model_component::Component;
 
-// Numbers that a kind does not use are +0.
-#[derive(Clone, Copy)]
-pub struct Numbers {
+// A kind and its five values: numbers, or their bits. Those that a kind does not use are +0.
+// Kept: a number for the kind and words a to e, since the C interface and the layout of bytes have them.
+#[derive(Clone, Copy, PartialEq, Eq)]
+pub struct Numbered<T> {
     pub kind: u64,
-    pub a: f64,
-    pub b: f64,
-    pub c: f64,
-    pub d: f64,
-    pub e: f64,
+    pub a: T,
+    pub b: T,
+    pub c: T,
+    pub d: T,
+    pub e: T,
 }
 
-#[derive(Clone, Copy)]
-pub struct ComponentWords {
-    pub kind: u64,
-    pub a: u64,
-    pub b: u64,
-    pub c: u64,
-    pub d: u64,
-    pub e: u64,
-}
+pub type Numbers = Numbered<f64>;
 
-// A kind with four numbers, or fewer.
-fn four_at_most(kind: u64, a: f64, b: f64, c: f64, d: f64) -> Numbers
-    ensures { result ≡ record { kind = kind; a = a; b = b; c = c; d = d; e = Ieee.of_bits binary64 0 } }
+pub type ComponentWords = Numbered<u64>;
+
+fn four(kind: u64, a: f64, b: f64, c: f64, d: f64) -> Numbers
+    ensures { result ≡ four kind a b c d }
 {
     Numbers {
-        kind: kind,
-        a: a,
-        b: b,
-        c: c,
-        d: d,
+        kind,
+        a,
+        b,
+        c,
+        d,
         e: 0.0,
     }
 }
 
-// The kind and the numbers of a component.
-pub fn numbers_of(component: Component) -> Numbers
-    ensures { result ≡ numbers_of component }
+fn one(kind: u64, a: f64) -> Numbers
+    ensures { result ≡ one kind a }
 {
-    match component {
-        Component::Constant(v) => four_at_most(0, v, 0.0, 0.0, 0.0),
-        Component::Sphere(s) => four_at_most(1, s.centre.x, s.centre.y, s.centre.z, s.radius),
-        Component::Torus(t) => Numbers {
-            kind: 2,
-            a: t.centre.x,
-            b: t.centre.y,
-            c: t.centre.z,
-            d: t.r,
-            e: t.t,
-        },
-        Component::Multiply => four_at_most(3, 0.0, 0.0, 0.0, 0.0),
-        Component::Add => four_at_most(4, 0.0, 0.0, 0.0, 0.0),
-        Component::Subtract => four_at_most(5, 0.0, 0.0, 0.0, 0.0),
-        Component::Divide => four_at_most(6, 0.0, 0.0, 0.0, 0.0),
-        Component::Lerp(factor) => four_at_most(7, factor, 0.0, 0.0, 0.0),
-        Component::VariableLerp => four_at_most(8, 0.0, 0.0, 0.0, 0.0),
-        Component::Remap {
-            from_min,
-            from_max,
-            to_min,
-            to_max,
-        } => four_at_most(9, from_min, from_max, to_min, to_max),
-        Component::BooleanUnion => four_at_most(10, 0.0, 0.0, 0.0, 0.0),
-        Component::BooleanIntersection => four_at_most(11, 0.0, 0.0, 0.0, 0.0),
-        Component::BooleanDifference => four_at_most(12, 0.0, 0.0, 0.0, 0.0),
-        Component::Offset(distance) => four_at_most(13, distance, 0.0, 0.0, 0.0),
-        Component::Thickness(t) => four_at_most(14, t, 0.0, 0.0, 0.0),
+    four(kind, a, 0.0, 0.0, 0.0)
+}
+
+fn plain(kind: u64) -> Numbers
+    ensures { result ≡ plain kind }
+{
+    one(kind, 0.0)
+}
+
+// The kind and the numbers of a component.
+#[tactic(auto, unfolding(crate::specs::Numbers::numbers_of))]
+impl From<Component> for Numbers {
+    ghost from_gives = { λ c n. n ≡ numbers_of c };
+
+    fn from(component: Component) -> Numbers {
+        match component {
+            Component::Constant(v) => one(0, v),
+            Component::Sphere(s) => four(1, s.centre.x, s.centre.y, s.centre.z, s.radius),
+            Component::Torus(t) => Numbers {
+                kind: 2,
+                a: t.centre.x,
+                b: t.centre.y,
+                c: t.centre.z,
+                d: t.r,
+                e: t.t,
+            },
+            Component::Multiply => plain(3),
+            Component::Add => plain(4),
+            Component::Subtract => plain(5),
+            Component::Divide => plain(6),
+            Component::Lerp(factor) => one(7, factor),
+            Component::VariableLerp => plain(8),
+            Component::Remap {
+                from_min,
+                from_max,
+                to_min,
+                to_max,
+            } => four(9, from_min, from_max, to_min, to_max),
+            Component::BooleanUnion => plain(10),
+            Component::BooleanIntersection => plain(11),
+            Component::BooleanDifference => plain(12),
+            Component::Offset(distance) => one(13, distance),
+            Component::Thickness(t) => one(14, t),
+        }
     }
 }
 
@@ -83,22 +92,19 @@ fn bits(x: f64) -> u64
     float::bits::bits_of(x)
 }
 
-// The words of a component.
-pub fn words_of(component: Component) -> ComponentWords
-    ensures { Worded component result }
-{
-    let n = numbers_of(component);
-    let a = bits(n.a);
-    let b = bits(n.b);
-    let c = bits(n.c);
-    let d = bits(n.d);
-    let e = bits(n.e);
-    ComponentWords {
-        kind: n.kind,
-        a: a,
-        b: b,
-        c: c,
-        d: d,
-        e: e,
+// The words of a component, from which it is read back.
+impl From<Component> for ComponentWords {
+    ghost from_gives = { Worded };
+
+    fn from(component: Component) -> ComponentWords {
+        let n = Numbers::from(component);
+        ComponentWords {
+            kind: n.kind,
+            a: bits(n.a),
+            b: bits(n.b),
+            c: bits(n.c),
+            d: bits(n.d),
+            e: bits(n.e),
+        }
     }
 }

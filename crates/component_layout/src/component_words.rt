@@ -2,86 +2,70 @@
 ghost use Rattle.std.specs.Prelude.{◌≡◌};
 ghost use Rattle.component_layout.specs.Components.{component_of, component_from, data_from, component_read, data_read};
 
+use crate::component_numbers::{ComponentWords, Numbers};
 use component::model_component::Component;
 use component::parameter::Data;
+use float::bits::float_of;
 use geometry::vec3f::Vec3;
 use shapes::sphere::Sphere;
 use shapes::torus::Torus;
 
-#[derive(Clone, Copy)]
-pub enum ComponentRead {
-    Component(Component),
-    NoComponent,
-}
-
-#[derive(Clone, Copy)]
-pub enum DataRead {
-    Data(Data),
-    NoData,
-}
-
-// The component of a kind with the numbers a to e.
-pub fn component_of(kind: u64, a: f64, b: f64, c: f64, d: f64, e: f64) -> ComponentRead
-    ensures { component_read result ≡ component_of kind a b c d e }
+// The component of a kind with these numbers.
+#[tactic(auto, unfolding(crate::specs::Components::component_of))]
+pub fn component_of(n: Numbers) -> Option<Component>
+    ensures { component_read result ≡ component_of n.kind n.a n.b n.c n.d n.e }
 {
-    let component = match kind {
-        0 => Component::Constant(a),
-        1 => Component::Sphere(Sphere::at_coord(a, b, c, d)),
-        2 => Component::Torus(Torus::at_coord(a, b, c, d, e)),
+    let component = match n.kind {
+        0 => Component::Constant(n.a),
+        1 => Component::Sphere(Sphere::at_coord(n.a, n.b, n.c, n.d)),
+        2 => Component::Torus(Torus::at_coord(n.a, n.b, n.c, n.d, n.e)),
         3 => Component::Multiply,
         4 => Component::Add,
         5 => Component::Subtract,
         6 => Component::Divide,
-        7 => Component::Lerp(a),
+        7 => Component::Lerp(n.a),
         8 => Component::VariableLerp,
         9 => Component::Remap {
-            from_min: a,
-            from_max: b,
-            to_min: c,
-            to_max: d,
+            from_min: n.a,
+            from_max: n.b,
+            to_min: n.c,
+            to_max: n.d,
         },
         10 => Component::BooleanUnion,
         11 => Component::BooleanIntersection,
         12 => Component::BooleanDifference,
-        13 => Component::Offset(a),
-        14 => Component::Thickness(a),
-        _ => return ComponentRead::NoComponent,
+        13 => Component::Offset(n.a),
+        14 => Component::Thickness(n.a),
+        _ => return None,
     };
-    ComponentRead::Component(component)
+    Some(component)
 }
 
 // The component of a kind whose numbers have these bits.
-pub fn component_from(kind: u64, a: u64, b: u64, c: u64, d: u64, e: u64) -> ComponentRead
-    ensures { component_read result ≡ component_from kind a b c d e }
+pub fn component_from(w: ComponentWords) -> Option<Component>
+    ensures { component_read result ≡ component_from w.kind w.a w.b w.c w.d w.e }
 {
-    let v = float::bits::float_of(a);
-    let w = float::bits::float_of(b);
-    let x = float::bits::float_of(c);
-    let y = float::bits::float_of(d);
-    let z = float::bits::float_of(e);
-    component_of(kind, v, w, x, y, z)
+    component_of(Numbers {
+        kind: w.kind,
+        a: float_of(w.a),
+        b: float_of(w.b),
+        c: float_of(w.c),
+        d: float_of(w.d),
+        e: float_of(w.e),
+    })
 }
 
 // What a parameter is set to, from its kind and words.
-pub fn data_from(kind: u64, a: u64, b: u64, c: u64) -> DataRead
+// Kept: a number for the kind, and four words, since the C interface and the layout of bytes have them.
+#[tactic(auto, unfolding(crate::specs::Components::data_from))]
+pub fn data_from(kind: u64, a: u64, b: u64, c: u64) -> Option<Data>
     ensures { data_read result ≡ data_from kind a b c }
 {
-    if kind == 0 {
-        return DataRead::Data(Data::Value(float::bits::float_of(a)));
+    match (kind, a) {
+        (0, _) => Some(Data::Value(float_of(a))),
+        (1, _) => Some(Data::Vec3(Vec3::new(float_of(a), float_of(b), float_of(c)))),
+        (2, 0) => Some(Data::Boolean(false)),
+        (2, 1) => Some(Data::Boolean(true)),
+        _ => None,
     }
-    if kind == 1 {
-        let v = float::bits::float_of(a);
-        let w = float::bits::float_of(b);
-        let x = float::bits::float_of(c);
-        return DataRead::Data(Data::Vec3(Vec3::new(v, w, x)));
-    }
-    if kind == 2 {
-        if a == 0 {
-            return DataRead::Data(Data::Boolean(false));
-        }
-        if a == 1 {
-            return DataRead::Data(Data::Boolean(true));
-        }
-    }
-    DataRead::NoData
 }

@@ -1,14 +1,16 @@
 -- Runs of bytes put into a list, and the words that are read back. Assumes nothing.
 use mathlib.Core.Path.{◌≡◌, refl, sym, ap, subst, ◌∙◌}
 use mathlib.Core.Bool.{Bool, cond}
-use mathlib.Core.List.{List, [], ◌∷◌, ◌++◌, append_assoc}
+use mathlib.Core.List.{List, ◌++◌, append_assoc}
 use Prim.Native.Nat.{ℕ, ◌+◌, ◌*◌, ◌-◌, ◌/◌, ◌%◌, ◌≤◌, ◌<◌}
-use native.Mathlib.Nat.{add_assoc, add-zero}
-use native.Mathlib.Numerals.{add-one}
+use native.Mathlib.Nat.{add_assoc, add-zero, div-div-eq-div-mul}
 use native.Mathlib.Omega.{arith}
-use lib.ListN.{length, get_or, take, drop, set, length-append, length-drop, get_or-append}
-use lib.Seq.{take_at, drop_at, drop-drop, length-take-le, sets-eq, get_or-append-add, get_or-take, get_or-drop}
+use lib.ListN.{length, get_or, take, drop, length-append, length-drop, get_or-append}
+use lib.Seq.{take_at, drop_at, drop-drop, length-take-le, get_or-append-add, get_or-take, get_or-drop}
+use mir.Syntax.{w64}
 use borrow.Author.Tests.{le-leb, lt-leb}
+use borrow.Rule.Slice.PartMut.{put_mid}
+use Rattle.std.specs.Int.{to_le_bytes}
 use Rattle.layout.specs.Words.{four, word}
 use Rattle.layout.specs.Writing.{bytes4, bytes8, put, put_word, Kept}
 
@@ -63,10 +65,6 @@ module _ (s : List ℕ) (i : ℕ) (vs : List ℕ) (fits : i + length vs ≤ leng
   pub put-kept : Kept s (put s i vs) i (length vs)
   put-kept = record { size = length-put; below = put-below; above = put-above }
 
--- two stores are a run of two
-pub two_stores : (s : List ℕ) (i a b : ℕ) → i + 2 ≤ length s → set (set s i a) (i + 1) b ≡ put s i (a ∷ b ∷ [])
-two_stores s i a b h = ap (λ (n : ℕ). set (set s i a) n b) (add-one i) ∙ sets-eq (a ∷ b ∷ []) s i h ∙ sym (put_is s i (a ∷ b ∷ []) h)
-
 -- two runs, one behind the other, are one
 pub twice : (s : List ℕ) (i n : ℕ) (vs ws : List ℕ) → length vs ≡ n → i + n ≤ length s → put (put s i vs) (i + n) ws ≡ put s i (vs ++ ws)
 twice s i n vs ws e h =
@@ -79,6 +77,16 @@ length-bytes4 x = refl
 pub length-bytes8 : (x : ℕ) → length (bytes8 x) ≡ 8
 unfolding bytes4 bytes8
 length-bytes8 x = refl
+
+-- the bytes of a word, as std writes them
+pub le_bytes8 : (x : ℕ) → to_le_bytes w64 x ≡ bytes8 x
+unfolding bytes4 bytes8
+le_bytes8 x = simp div-div-eq-div-mul
+
+-- a part of a slice that is written over is a run put there
+pub put_part : (s : List ℕ) (i : ℕ) (vs : List ℕ) → length vs ≡ 8 → put_mid i (i + 8 - i) s vs ≡ put s i vs
+unfolding put
+put_part s i vs e = ap (λ (l : List ℕ). take i s ++ (vs ++ l)) (drop-drop (i + 8 - i) i s ∙ ap (λ (n : ℕ). drop n s) (let z : i + (i + 8 - i) ≡ i + length vs = omega arith in z))
 
 -- ---- what is read of bytes that were written
 

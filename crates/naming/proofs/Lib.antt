@@ -1,3 +1,3 @@
--- `Theorems` is for other crates; `Arms` is what the functions' proofs cite.
+-- `Theorems` is for other crates; `Entries` is what the functions' proofs cite.
 pub mod Theorems
-mod Arms
+mod Entries

@@ -1,9 +1,10 @@
 -- The name of each kind and of its parameters, in the Rust's order, with what each takes. Definitions only.
-use Rattle.std.specs.Prelude.{◌≡◌, List, [], ◌∷◌, ℕ, get_or}
+use Rattle.std.specs.Prelude.{◌≡◌, List, [], ◌∷◌, ℕ, Option, Some, None, slice_get}
+use denote.Bor.{Bor}
 use Rattle.tag.specs.View.{Labelled}
 use Rattle.component.specs.Parameter.{Name, name_value, name_centre, name_radius, name_thickness, name_factor, name_from_min, name_from_max, name_to_min, name_to_max, name_distance}
 use Rattle.component.specs.declared.parameter.DataType.{DataType}
-use Rattle.component.specs.declared.parameter.DataType.TheVariants.{Value, Vec3, Nothing}
+use Rattle.component.specs.declared.parameter.DataType.TheVariants.{Value, Vec3}
 use Rattle.component.specs.declared.parameter.Parameter.{Parameter}
 use Rattle.component.specs.declared.model_component.Component.{Component}
 use Rattle.component.specs.declared.model_component.Component.TheVariants.{Constant, Sphere, Torus, Multiply, Add, Subtract, Divide, Lerp, VariableLerp, Remap, BooleanUnion, BooleanIntersection, BooleanDifference, Offset, Thickness}
@@ -56,14 +57,22 @@ parameters BooleanDifference = []
 parameters (Offset distance) = (name_distance, Value) ∷ []
 parameters (Thickness t) = (name_thickness, Value) ∷ []
 
--- the parameter at place i; past the end, none
-abbrev pub no_parameter : Entry
-no_parameter = ([], Nothing)
+-- as a table in memory has it
+abbrev pub entry : Bor (List ℕ) × DataType → Entry
+entry p = (p.0.now, p.1)
 
-abbrev pub parameter_at : Component → ℕ → Entry
-parameter_at c i = get_or (parameters c) i no_parameter
+-- the parameter at place i; past the end, none
+abbrev pub parameter_at : Component → ℕ → Option Entry
+parameter_at c i = slice_get (parameters c) i
 
 -- the record holds this parameter
 pub record Described (e : Entry) (r : Parameter) : Type 0 where
   pub name : Labelled e.0 r.name
   pub takes : r.data_type ≡ e.1
+
+-- and none where there is none
+abbrev pub DescribedAt : Option Entry → Option Parameter → Type 0
+DescribedAt (Some e) (Some r) = Described e r
+DescribedAt (Some e) None = ⊥
+DescribedAt None (Some r) = ⊥
+DescribedAt None None = Unit {0}

@@ -1,5 +1,5 @@
--- Nodes and their wires, as the code numbers them: what the helpers of compile promise of numbers alone. Definitions only.
-use Rattle.std.specs.Prelude.{ℕ, ◌+◌, ◌*◌, ◌≤◌, ◌<◌, ◌≡◌, ◌↔◌, ◌⊎◌, Bool, true, false, cond, length, get_or, take, ltb, eqb}
+-- Nodes and their wires, as the code numbers them: what laying promises of numbers alone. Definitions only.
+use Rattle.std.specs.Prelude.{ℕ, ◌+◌, ◌*◌, ◌≤◌, ◌<◌, ◌≡◌, ◌↔◌, ◌⊎◌, Bool, true, false, cond, Option, Some, None, length, get_or, take, ltb}
 use mathlib.Core.List.{List, [], ◌∷◌, ◌++◌, Memᴰ}
 
 -- x stands in the list
@@ -48,58 +48,63 @@ node x l = keep (ltb x 192) x l
 unfoldable pub inputs_of : List ℕ → ℕ → List ℕ
 inputs_of w i = node (get_or w (i * 3) 0) (node (get_or w (i * 3 + 1) 0) (node (get_or w (i * 3 + 2) 0) []))
 
--- ---- sets of nodes: 192 marks, 1 is in
+-- what stands in the places of node i
+abbrev pub entries_of : List ℕ → ℕ → List ℕ
+entries_of w i = get_or w (i * 3) 0 ∷ get_or w (i * 3 + 1) 0 ∷ get_or w (i * 3 + 2) 0 ∷ []
 
--- a place is served: it has no node, or a marked one
-abbrev pub served_of : List ℕ → ℕ → Bool
-served_of m x = cond (ltb x 192) (eqb (get_or m x 0) 1) true
+-- ---- lists of nodes
 
--- all places of node i are served
-abbrev pub ready_of : List ℕ → List ℕ → ℕ → Bool
-ready_of w m i = cond (served_of m (get_or w (i * 3) 0)) (cond (served_of m (get_or w (i * 3 + 1) 0)) (served_of m (get_or w (i * 3 + 2) 0)) false) false
+-- distinct nodes
+pub record AreDistinct (xs : List ℕ) : Type 0 where
+  pub small : (a : ℕ) → a ∈ xs → a < 192
+  pub once : (ahead : List ℕ) (a : ℕ) (rest : List ℕ) → xs ≡ ahead ++ (a ∷ rest) → ¬ (a ∈ ahead)
 
--- node i is not placed yet, and can be
-abbrev pub next_of : List ℕ → List ℕ → ℕ → Bool
-next_of w placed i = cond (eqb (get_or placed i 0) 1) false (ready_of w placed i)
-
--- ---- lists of nodes in an array
+-- a mark for each of the 192 nodes: whether it stands in xs
+pub record Marks (xs : List ℕ) (m : List Bool) : Type 0 where
+  pub m_length : length m ≡ 192
+  pub marks : (a : ℕ) → a < 192 → (get_or m a false ≡ true) ↔ (a ∈ xs)
 
 -- the first n entries of `at` are distinct nodes, and m marks them
-pub record Listed (at : List ℕ) (n : ℕ) (m : List ℕ) : Type 0 where
+pub record Listed (at : List ℕ) (n : ℕ) (m : List Bool) : Type 0 where
   pub at_length : length at ≡ 192
-  pub m_length : length m ≡ 192
   pub n_le : n ≤ 192
-  pub small : (a : ℕ) → a ∈ take n at → a < 192
-  pub once : (ahead : List ℕ) (a : ℕ) (rest : List ℕ) → take n at ≡ ahead ++ (a ∷ rest) → ¬ (a ∈ ahead)
-  pub marks : (a : ℕ) → a < 192 → (get_or m a 0 ≡ 1) ↔ (a ∈ take n at)
+  pub nodes : AreDistinct (take n at)
+  pub marked : Marks (take n at) m
 
--- after meeting x: x is listed too if it is a node, and what was listed stands where it stood
-pub record Met (at : List ℕ) (n : ℕ) (x : ℕ) (at' : List ℕ) (n' : ℕ) (m' : List ℕ) : Type 0 where
-  pub listed : Listed at' n' m'
-  pub more : n ≤ n'
-  pub same : (k : ℕ) → k < n → get_or at' k 0 ≡ get_or at k 0
-  pub kept : (a : ℕ) → a ∈ take n at → a ∈ take n' at'
-  pub has : x < 192 → x ∈ take n' at'
-  pub only : (a : ℕ) → a ∈ take n' at' → (a ∈ take n at) ⊎ ((a ≡ x) × (x < 192))
+-- all inputs of node i stand in xs; or one does not
+abbrev pub Ready : List ℕ → List ℕ → ℕ → Type 0
+Ready w xs i = (b : ℕ) → b ∈ inputs_of w i → b ∈ xs
 
--- the first n entries of `at` are the reach of t, each once, and m marks it
-pub record IsReach (w : List ℕ) (t : ℕ) (at : List ℕ) (n : ℕ) (m : List ℕ) : Type 0 where
-  pub listed : Listed at n m
-  pub all : (a : ℕ) → Reaches (inputs_of w) t a → a ∈ take n at
-  pub only : (a : ℕ) → a ∈ take n at → Reaches (inputs_of w) t a
+abbrev pub Waiting : List ℕ → List ℕ → ℕ → Type 0
+Waiting w xs i = (b : ℕ) × (b ∈ inputs_of w i) × (¬ (b ∈ xs))
 
--- x is one of the first n that can be placed next, or 192 where none of them can
-pub record NextIn (w at : List ℕ) (n : ℕ) (placed : List ℕ) (x : ℕ) : Type 0 where
-  pub within : x ≤ 192
-  pub found : x < 192 → (x ∈ take n at) × (next_of w placed x ≡ true)
-  pub none : 192 ≤ x → (a : ℕ) → a ∈ take n at → next_of w placed a ≡ false
+-- node i can be placed after xs: it is new, and ready; or it can't
+abbrev pub Next : List ℕ → List ℕ → ℕ → Type 0
+Next w xs i = (¬ (i ∈ xs)) × Ready w xs i
 
--- the answer: an order of t, or that t closes a cycle
-pub record Ordered (w : List ℕ) (t : ℕ) (at : List ℕ) (n : ℕ) (done : Bool) : Type 0 where
-  pub order : done ≡ true → IsOrder (inputs_of w) t (take n at)
-  pub cyclic : done ≡ false → Circular (inputs_of w) t
-  pub fits : n ≤ 192
-  pub at_length : length at ≡ 192
+abbrev pub NotNext : List ℕ → List ℕ → ℕ → Type 0
+NotNext w xs i = (i ∈ xs) ⊎ Waiting w xs i
+
+-- xs after meeting x: x has joined if it is a node that is not there
+pub data Met (xs : List ℕ) (x : ℕ) : List ℕ → Type 0 where
+  stayed : (x < 192 → x ∈ xs) → Met xs x xs
+  joined : x < 192 → ¬ (x ∈ xs) → Met xs x (xs ++ (x ∷ []))
+
+-- xs is the reach of t, each node once
+pub record IsReach (w : List ℕ) (t : ℕ) (xs : List ℕ) : Type 0 where
+  pub nodes : AreDistinct xs
+  pub all : (a : ℕ) → Reaches (inputs_of w) t a → a ∈ xs
+  pub only : (a : ℕ) → a ∈ xs → Reaches (inputs_of w) t a
+
+-- one of the line that can be placed next; none where no one can
+abbrev pub NextIn : List ℕ → List ℕ → List ℕ → Option ℕ → Type 0
+NextIn w line xs (Some x) = (x ∈ line) × Next w xs x
+NextIn w line xs None = (a : ℕ) → a ∈ line → NotNext w xs a
+
+-- the answer: an order of t; none where t closes a cycle
+abbrev pub Ordered : List ℕ → ℕ → Option (List ℕ) → Type 0
+Ordered w t (Some xs) = IsOrder (inputs_of w) t xs
+Ordered w t None = Circular (inputs_of w) t
 
 -- an entry that is neither an absent tag nor a gap
 abbrev pub filled_of : ℕ → Bool
@@ -109,17 +114,15 @@ filled_of x = cond (ltb x 64) true (ltb 193 x)
 abbrev pub whole_of : List ℕ → ℕ → Bool
 whole_of w i = cond (ltb i 64) (cond (filled_of (get_or w (i * 3) 0)) (cond (filled_of (get_or w (i * 3 + 1) 0)) (filled_of (get_or w (i * 3 + 2) 0)) false) false) false
 
--- a test that, where it holds, says so of the first n
-pub record Whole (w at : List ℕ) (n : ℕ) (b : Bool) : Type 0 where
-  pub each : b ≡ true → (x : ℕ) → x ∈ take n at → whole_of w x ≡ true
+-- a test that, where it holds, says so of each node
+abbrev pub Whole : List ℕ → List ℕ → Bool → Type 0
+Whole w xs b = b ≡ true → (x : ℕ) → x ∈ xs → whole_of w x ≡ true
 
--- the reach of t, which m marks, laid out: an order of it or a cycle, and a test of all of it; the line that lists it is not told
-pub record LaysOut (w : List ℕ) (t : ℕ) (at : List ℕ) (n : ℕ) (done whole : Bool) (m : List ℕ) : Type 0 where
-  pub line : List ℕ
-  pub count : ℕ
-  pub reach : IsReach w t line count m
-  pub laid : Ordered w t at n done
-  pub test : Whole w line count whole
+-- the reach of t, laid out: an order of it or a cycle, and a test of all of it
+pub record LaysOut (w : List ℕ) (t : ℕ) (reach : List ℕ) (order : Option (List ℕ)) (whole : Bool) : Type 0 where
+  pub reached : IsReach w t reach
+  pub laid : Ordered w t order
+  pub test : Whole w reach whole
 
 -- the first k entries
 pub record Copied (k : ℕ) (xs r : List ℕ) : Type 0 where

@@ -1,214 +1,123 @@
 // Nodes by number: the reach of one, and an order of it with inputs ahead of users.
+// The wires of 192 nodes stand in an array w, three places a node: a component below 64, a list's tag below 192; else no node, which is an absent tag (192), a gap (193) or past the end (194).
+// Kept: numbers in w, since its head is handed on to the host as words; an enum in each place would double it.
 #![tactic(auto)]
 
-ghost use Rattle.std.specs.Prelude.{◌≡◌, ◌<◌};
-ghost use Rattle.nodes.specs.Nodes.{served_of, ready_of, next_of, filled_of, whole_of, Listed, Met, IsReach, NextIn, Ordered, Whole, LaysOut};
+ghost use Rattle.std.specs.Prelude.{◌≡◌, ◌<◌, true, false};
+ghost use Rattle.nodes.specs.Nodes.{entries_of, Ready, Waiting, Next, NotNext, NextIn, IsReach, Ordered, Whole, LaysOut, filled_of, whole_of};
 
-// A place is served: it has no node, or a marked one.
-fn served(m: &[u8; 192], x: usize) -> bool
-    ensures { result ≡ served_of m.now x }
+use node_list::NodeList;
+
+pub mod node_list;
+
+// What stands in the places of node i.
+fn entries(w: &[usize; 576], i: usize) -> &[usize]
+    requires { i < 192 }
+    ensures { result.now ≡ entries_of w.now i }
 {
-    if x < 192 { m[x] == 1 } else { true }
+    &w[i * 3..i * 3 + 3]
 }
 
 // All places of node i are served.
-fn ready(w: &[usize; 576], m: &[u8; 192], i: usize) -> bool
+fn is_ready(w: &[usize; 576], placed: &NodeList, i: usize) -> bool
     requires { i < 192 }
-    ensures { result ≡ ready_of w.now m.now i }
+    ensures yes { result ≡ true → Ready w.now placed.now i }
+    ensures no { result ≡ false → Waiting w.now placed.now i }
 {
-    if !served(m, w[i * 3]) {
-        return false;
-    }
-    if !served(m, w[i * 3 + 1]) {
-        return false;
-    }
-    served(m, w[i * 3 + 2])
+    entries(w, i).iter().all(|&x| placed.serves(x))
 }
 
 // Node i is not placed yet, and can be.
-fn can_be_next(w: &[usize; 576], placed: &[u8; 192], i: usize) -> bool
+fn can_be_next(w: &[usize; 576], placed: &NodeList, i: usize) -> bool
     requires { i < 192 }
-    ensures { result ≡ next_of w.now placed.now i }
+    ensures yes { result ≡ true → Next w.now placed.now i }
+    ensures no { result ≡ false → NotNext w.now placed.now i }
 {
-    if placed[i] == 1 {
-        return false;
-    }
-    ready(w, placed, i)
+    !placed.contains(i) && is_ready(w, placed, i)
 }
 
-// One of the first n that can be placed next, or 192. The choice among them is made here alone: from the back, where the inputs stand.
-fn next_ready(
-    w: &[usize; 576],
-    at: &[usize; 192],
-    n: usize,
-    seen: &[u8; 192],
-    placed: &[u8; 192],
-) -> usize
-    requires { Listed at.now n seen.now }
-    ensures { NextIn w.now at.now n placed.now result }
+// One of the line that can be placed next. The choice among them is made here alone: from the back, where the inputs stand.
+fn next_ready(w: &[usize; 576], line: &NodeList, placed: &NodeList) -> Option<usize>
+    ensures { NextIn w.now line.now placed.now result }
 {
-    let mut i = n;
-    while 0 < i {
-        i -= 1;
-        let x = at[i];
-        if can_be_next(w, placed, x) {
-            return x;
-        }
-    }
-    192
+    line.nodes()
+        .iter()
+        .rev()
+        .find(|&&x| can_be_next(w, placed, x))
+        .copied()
 }
 
-#[derive(Clone, Copy)]
-pub struct Laying {
-    pub at: [usize; 192],
-    pub n: usize,
-    pub done: bool,
-}
-
-// The first n, which are the reach of t, inputs ahead of users; or that t closes a cycle.
-fn lay(w: &[usize; 576], line: &[usize; 192], n: usize, seen: &[u8; 192], t: usize) -> Laying
-    requires { (t < 192) × IsReach w.now t line.now n seen.now }
-    ensures { Ordered w.now t result.at result.n result.done }
+// The reach of t, inputs ahead of users; none where t closes a cycle.
+fn lay(w: &[usize; 576], reach: &NodeList, t: usize) -> Option<NodeList>
+    requires node { t < 192 }
+    requires reached { IsReach w.now t reach.now }
+    ensures { Ordered w.now t result }
 {
-    let mut at = [0usize; 192];
-    let mut placed = [0u8; 192];
-    let mut k = 0;
-    while placed[t] != 1 {
-        let x = next_ready(w, line, n, seen, &placed);
-        if x == 192 {
-            return Laying {
-                at,
-                n: 0,
-                done: false,
-            };
-        }
-        at[k] = x;
-        placed[x] = 1;
-        k += 1;
+    let mut order = NodeList::new();
+    while !order.contains(t) {
+        let x = next_ready(w, reach, &order)?;
+        order.push(x);
     }
-    Laying {
-        at,
-        n: k,
-        done: true,
-    }
-}
-
-// x is met: it joins the list if it is a node that is not there.
-fn meet(at: &mut [usize; 192], seen: &mut [u8; 192], n: usize, x: usize) -> usize
-    requires { Listed at.old n seen.old }
-    ensures { Met at.old n x at.new result seen.new }
-{
-    if 192 <= x {
-        return n;
-    }
-    if seen[x] == 1 {
-        return n;
-    }
-    at[n] = x;
-    seen[x] = 1;
-    n + 1
-}
-
-#[derive(Clone, Copy)]
-pub struct Line {
-    pub at: [usize; 192],
-    pub n: usize,
-    pub seen: [u8; 192],
+    Some(order)
 }
 
 // The reach of t: a line of nodes, each met once, whose inputs join at its turn.
-fn reach(w: &[usize; 576], t: usize) -> Line
+fn reach(w: &[usize; 576], t: usize) -> NodeList
     requires { t < 192 }
-    ensures { IsReach w.now t result.at result.n result.seen }
+    ensures { IsReach w.now t result }
 {
-    let mut at = [0usize; 192];
-    let mut seen = [0u8; 192];
-    let mut n = meet(&mut at, &mut seen, 0, t);
+    let mut line = NodeList::new();
+    line.meet(t);
     let mut i = 0;
-    while i < n {
-        let x = at[i];
-        n = meet(&mut at, &mut seen, n, w[x * 3]);
-        n = meet(&mut at, &mut seen, n, w[x * 3 + 1]);
-        n = meet(&mut at, &mut seen, n, w[x * 3 + 2]);
+    // Kept: the line grows while it is walked, so no iterator over it can drive this loop.
+    while let Some(&x) = line.nodes().get(i) {
+        for &y in entries(w, x) {
+            line.meet(y);
+        }
         i += 1;
     }
-    Line { at, n, seen }
+    line
 }
 
 // An entry that is neither an absent tag nor a gap: a component, or past the end.
 fn is_filled(x: usize) -> bool
     ensures { result ≡ filled_of x }
 {
-    if x < 64 { true } else { 193 < x }
+    !matches!(x, 64..=193)
 }
 
 // Node i is a component, and each of its places is filled.
 fn is_whole(w: &[usize; 576], i: usize) -> bool
-    requires { i < 192 }
     ensures { result ≡ whole_of w.now i }
 {
-    if 64 <= i {
-        return false;
-    }
-    if !is_filled(w[i * 3]) {
-        return false;
-    }
-    if !is_filled(w[i * 3 + 1]) {
-        return false;
-    }
-    is_filled(w[i * 3 + 2])
+    i < 64 && entries(w, i).iter().all(|&x| is_filled(x))
 }
 
-// Whether the first n are components whose places are filled: then there is nothing to look for behind 12 and 13.
-fn all_whole(w: &[usize; 576], at: &[usize; 192], n: usize, seen: &[u8; 192]) -> bool
-    requires { Listed at.now n seen.now }
-    ensures { Whole w.now at.now n result }
-{
-    let mut i: usize = 0;
-    while i < n {
-        let x = at[i];
-        if !is_whole(w, x) {
-            return false;
-        }
-        i += 1;
-    }
-    true
-}
-
-// An order of n, or that there is none; whether all of the reach is whole; and the marks of the reach.
-#[derive(Clone, Copy)]
+// The reach of a node; an order of it, or that there is none; and whether all of it are components whose places are filled: then there is nothing to look for behind 12 and 13.
+#[derive(Drop)]
 pub struct LaidOut {
-    pub at: [usize; 192],
-    pub n: usize,
-    pub done: bool,
+    pub reach: NodeList,
+    pub order: Option<NodeList>,
     pub whole: bool,
-    pub seen: [u8; 192],
 }
 
 // The reach of t, laid out. What is no node has none.
 pub fn lay_out(w: &[usize; 576], t: usize) -> LaidOut
-    ensures { t < 192 → LaysOut w.now t result.at result.n result.done result.whole result.seen }
+    ensures { t < 192 → LaysOut w.now t result.reach result.order result.whole }
 {
     if 192 <= t {
         return LaidOut {
-            at: [0usize; 192],
-            n: 0,
-            done: false,
+            reach: NodeList::new(),
+            order: None,
             whole: false,
-            seen: [0u8; 192],
         };
     }
-    let s = reach(w, t);
-    let line = s.at;
-    let seen = s.seen;
-    let o = lay(w, &line, s.n, &seen, t);
-    let at = o.at;
-    let whole = all_whole(w, &line, s.n, &seen);
+    let reach = reach(w, t);
+    let order = lay(w, &reach, t);
+    let whole = reach.nodes().iter().all(|&x| is_whole(w, x));
     LaidOut {
-        at,
-        n: o.n,
-        done: o.done,
+        reach,
+        order,
         whole,
-        seen,
     }
 }

@@ -1,2 +1,2 @@
--- `Arms` is what the functions' proofs cite.
-mod Arms
+-- `Named` is what the proof of `read_parameter` cites.
+mod Named

@@ -1,115 +1,93 @@
 // A parameter set.
-#![tactic(auto)]
+#![tactic(auto, unfolding(component::specs::Parameter::set_value, component::specs::Parameter::set_vec3, component::specs::Parameter::set_parameter, component::specs::Parameter::name_centre, component::specs::Parameter::name_radius, component::specs::Parameter::name_thickness, component::specs::Parameter::name_factor, component::specs::Parameter::name_from_min, component::specs::Parameter::name_from_max, component::specs::Parameter::name_to_min, component::specs::Parameter::name_to_max, component::specs::Parameter::name_distance))]
 
 ghost use Rattle.std.specs.Prelude.{◌≡◌, cond};
 ghost use Rattle.tag.specs.Tags.{is};
-ghost use Rattle.component.specs.Parameter.{apart, set_value, set_vec3, set_parameter};
+ghost use Rattle.component.specs.Parameter.{set_value, set_vec3, set_parameter};
 
-use component::model_component::{Component, Setting};
-use component::parameter;
-use component::parameter::Data;
+use component::model_component::Component;
+use component::parameter::{self, Data, ParameterError};
+use component::range::Range;
 use geometry::vec3f::Vec3;
 use shapes::sphere::Sphere;
 use shapes::torus::Torus;
 use tag::bytes::same_bytes;
 
 // The change, where the name is the one wanted.
-fn set_named(name: &[u8], wanted: &[u8], changed: Component) -> Setting
-    ensures { result ≡ cond (is name.now wanted.now) (Setting.Changed changed) Setting.DoesNotFit }
+fn set_named(name: &[u8], wanted: &[u8], changed: Component) -> Result<Component, ParameterError>
+    ensures { result ≡ cond (is name.now wanted.now) (Ok changed) (Err ParameterError.DoesNotFit) }
 {
-    if same_bytes(name, wanted) {
-        return Setting::Changed(changed);
+    if !same_bytes(name, wanted) {
+        return Err(ParameterError::DoesNotFit);
     }
-    Setting::DoesNotFit
+    Ok(changed)
 }
 
-// The change, where the ends a and b of the changed range lie apart.
-fn set_apart(a: f64, b: f64, changed: Component) -> Setting
-    ensures { result ≡ apart a b changed }
+// Kept: tests of the name one by one, since a `match` on byte strings leaves a goal for each byte, and their proof didn't close.
+fn set_torus(torus: Torus, name: &[u8], v: f64) -> Result<Component, ParameterError>
+    ensures { result ≡ set_value (Component.Torus torus) name.now v }
 {
-    if parameter::too_near(a, b) {
-        return Setting::TooNear;
-    }
-    Setting::Changed(changed)
-}
-
-fn set_sphere(s: Sphere, name: &[u8], v: f64) -> Setting
-    ensures { result ≡ set_value (Component.Sphere s) name.now v }
-{
-    let mut changed = s;
-    changed.radius = v;
-    set_named(name, b"Radius", Component::Sphere(changed))
-}
-
-fn set_torus(s: Torus, name: &[u8], v: f64) -> Setting
-    ensures { result ≡ set_value (Component.Torus s) name.now v }
-{
-    let mut changed = s;
     if same_bytes(name, b"Radius") {
-        changed.r = v;
-        return Setting::Changed(Component::Torus(changed));
+        Ok(Component::Torus(Torus { r: v, ..torus }))
+    } else if same_bytes(name, b"Thickness") {
+        Ok(Component::Torus(Torus { t: v, ..torus }))
+    } else {
+        Err(ParameterError::DoesNotFit)
     }
-    changed.t = v;
-    set_named(name, b"Thickness", Component::Torus(changed))
 }
 
-fn set_remap(from_min: f64, from_max: f64, to_min: f64, to_max: f64, name: &[u8], v: f64) -> Setting
-    ensures { result ≡ set_value (Component.Remap from_min from_max to_min to_max) name.now v }
+// The operation that maps one range to the other.
+fn remap(from: Range, to: Range) -> Component
+    ensures { result ≡ Component.Remap from.min from.max to.min to.max }
+{
+    Component::Remap {
+        from_min: from.min,
+        from_max: from.max,
+        to_min: to.min,
+        to_max: to.max,
+    }
+}
+
+fn set_remap(from: Range, to: Range, name: &[u8], v: f64) -> Result<Component, ParameterError>
+    ensures { result ≡ set_value (Component.Remap from.min from.max to.min to.max) name.now v }
 {
     if same_bytes(name, b"FromMin") {
-        let changed = Component::Remap {
-            from_min: v,
-            from_max,
-            to_min,
-            to_max,
-        };
-        return set_apart(v, from_max, changed);
+        Ok(remap(Range::new(v, from.max).with_ends_apart()?, to))
+    } else if same_bytes(name, b"FromMax") {
+        Ok(remap(Range::new(from.min, v).with_ends_apart()?, to))
+    } else if same_bytes(name, b"ToMin") {
+        Ok(remap(from, Range::new(v, to.max).with_ends_apart()?))
+    } else if same_bytes(name, b"ToMax") {
+        Ok(remap(from, Range::new(to.min, v).with_ends_apart()?))
+    } else {
+        Err(ParameterError::DoesNotFit)
     }
-    if same_bytes(name, b"FromMax") {
-        let changed = Component::Remap {
-            from_min,
-            from_max: v,
-            to_min,
-            to_max,
-        };
-        return set_apart(from_min, v, changed);
-    }
-    if same_bytes(name, b"ToMin") {
-        let changed = Component::Remap {
-            from_min,
-            from_max,
-            to_min: v,
-            to_max,
-        };
-        return set_apart(v, to_max, changed);
-    }
-    if same_bytes(name, b"ToMax") {
-        let changed = Component::Remap {
-            from_min,
-            from_max,
-            to_min,
-            to_max: v,
-        };
-        return set_apart(to_min, v, changed);
-    }
-    Setting::DoesNotFit
 }
 
 // A Value under a name. A constant takes any name.
-fn set_value(c: Component, name: &[u8], v: f64) -> Setting
+fn set_value(c: Component, name: &[u8], v: f64) -> Result<Component, ParameterError>
     ensures { result ≡ set_value c name.now v }
 {
     match c {
-        Component::Constant(_) => Setting::Changed(Component::Constant(v)),
-        Component::Sphere(s) => set_sphere(s, name, v),
-        Component::Torus(s) => set_torus(s, name, v),
+        Component::Constant(_) => Ok(Component::Constant(v)),
+        Component::Sphere(s) => set_named(
+            name,
+            b"Radius",
+            Component::Sphere(Sphere { radius: v, ..s }),
+        ),
+        Component::Torus(t) => set_torus(t, name, v),
         Component::Lerp(_) => set_named(name, b"Factor", Component::Lerp(parameter::clamped(v))),
         Component::Remap {
             from_min,
             from_max,
             to_min,
             to_max,
-        } => set_remap(from_min, from_max, to_min, to_max, name, v),
+        } => set_remap(
+            Range::new(from_min, from_max),
+            Range::new(to_min, to_max),
+            name,
+            v,
+        ),
         Component::Offset(_) => set_named(name, b"Distance", Component::Offset(v)),
         Component::Thickness(_) => set_named(name, b"Thickness", Component::Thickness(v)),
         Component::Multiply
@@ -119,36 +97,36 @@ fn set_value(c: Component, name: &[u8], v: f64) -> Setting
         | Component::VariableLerp
         | Component::BooleanUnion
         | Component::BooleanIntersection
-        | Component::BooleanDifference => Setting::DoesNotFit,
+        | Component::BooleanDifference => Err(ParameterError::DoesNotFit),
     }
 }
 
 // A Vec3 under a name: only a centre takes one.
-fn set_vec3(c: Component, name: &[u8], v: Vec3) -> Setting
+fn set_vec3(c: Component, name: &[u8], v: Vec3) -> Result<Component, ParameterError>
     ensures { result ≡ set_vec3 c name.now v }
 {
     match c {
-        Component::Sphere(s) => {
-            let mut changed = s;
-            changed.centre = v;
-            set_named(name, b"Centre", Component::Sphere(changed))
-        }
-        Component::Torus(s) => {
-            let mut changed = s;
-            changed.centre = v;
-            set_named(name, b"Centre", Component::Torus(changed))
-        }
-        _ => Setting::DoesNotFit,
+        Component::Sphere(s) => set_named(
+            name,
+            b"Centre",
+            Component::Sphere(Sphere { centre: v, ..s }),
+        ),
+        Component::Torus(t) => set_named(
+            name,
+            b"Centre",
+            Component::Torus(Torus { centre: v, ..t }),
+        ),
+        _ => Err(ParameterError::DoesNotFit),
     }
 }
 
 // The component with the parameter of that name set, or why it stays.
-pub fn set_parameter(c: Component, name: &[u8], data: Data) -> Setting
+pub fn set_parameter(c: Component, name: &[u8], data: Data) -> Result<Component, ParameterError>
     ensures { result ≡ set_parameter c name.now «data» }
 {
     match data {
         Data::Value(v) => set_value(c, name, v),
         Data::Vec3(v) => set_vec3(c, name, v),
-        Data::Boolean(_) => Setting::DoesNotFit,
+        Data::Boolean(_) => Err(ParameterError::DoesNotFit),
     }
 }

@@ -1,3 +1,4 @@
 pub mod Tags
+pub mod Comparing
 pub mod View
 pub mod Fitted

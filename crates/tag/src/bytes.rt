@@ -6,5 +6,5 @@ ghost use Rattle.tag.specs.Tags.{is};
 pub fn same_bytes(a: &[u8], b: &[u8]) -> bool
     ensures { result ≡ is a.now b.now }
 {
-    check::same(a, b)
+    a == b
 }

@@ -2,66 +2,88 @@
 #![tactic(auto)]
 
 pub mod bytes;
+pub mod equality;
 pub mod numbered;
 pub mod order;
 
-ghost use Rattle.std.specs.Prelude.{◌≡◌, min, take};
-ghost use Rattle.tag.specs.Tags.{is, empty};
+ghost use Rattle.std.specs.Prelude.{◌≡◌, ◌≤◌, true, false, min, take, length, MatchResult};
+ghost use Rattle.tag.specs.Tags.{is, empty, overlong};
 ghost use Rattle.tag.specs.View.{bytes_of, Made};
 
+// Kept: a buffer with a length beside it, for memory is fixed, and a length past 32 is input that the crates above refuse.
 #[derive(Clone, Copy)]
 pub struct Tag {
     pub bytes: [u8; 32],
     pub len: usize,
 }
 
+impl Tag {
+    // The tag's bytes. A length past the size counts as the size.
+    pub fn as_bytes(&self) -> &[u8]
+        ensures same { result.now ≡ bytes_of self.now }
+        ensures short { length result.now ≤ 32 }
+    {
+        &self.bytes[..self.len.min(32)]
+    }
+}
+
+// The tag of no bytes.
+impl Default for Tag {
+    ghost is_default = { Made empty };
+
+    fn default() -> Tag {
+        Tag {
+            bytes: [0; 32],
+            len: 0,
+        }
+    }
+}
+
 // The smaller of two numbers.
 pub fn at_most(n: usize, cap: usize) -> usize
     ensures { result ≡ min n cap }
 {
-    if n < cap {
-        return n;
-    }
-    cap
+    n.min(cap)
 }
 
 // The tag of the first 32 bytes: of all of them, where they are no more.
+// Kept: a function and no `From`, for it may drop bytes.
 pub fn tag_of(t: &[u8]) -> Tag
     ensures { Made (take 32 t.now) result }
 {
-    let n = at_most(t.len(), 32);
-    let mut b = [0u8; 32];
-    let mut j = 0usize;
-    while j < n {
-        b[j] = t[j];
-        j += 1;
+    let len = t.len().min(32);
+    let mut bytes = [0; 32];
+    bytes[..len].copy_from_slice(&t[..len]);
+    Tag { bytes, len }
+}
+
+// The bytes are too many for a tag.
+#[derive(Clone, Copy, PartialEq, Eq)]
+pub struct TagTooLong;
+
+impl TryFrom<&[u8]> for Tag {
+    type Error = TagTooLong;
+
+    ghost try_from_gives = { λ t r. MatchResult r (λ tag. (overlong t.now ≡ false) × Made t.now tag) (λ _. overlong t.now ≡ true) };
+
+    fn try_from(t: &[u8]) -> Result<Tag, TagTooLong> {
+        if 32 < t.len() {
+            return Err(TagTooLong);
+        }
+        Ok(tag_of(t))
     }
-    Tag { bytes: b, len: n }
 }
 
 // The tag of no bytes.
 pub fn empty_tag() -> Tag
     ensures { Made empty result }
 {
-    let b = [0u8; 32];
-    Tag { bytes: b, len: 0 }
+    Tag::default()
 }
 
-// Whether two tags are the same bytes. Tags of one length mostly differ near their end, as numbered ones do, so bytes are compared from there.
+// Whether two tags are the same bytes.
 pub fn same_tag(a: Tag, b: Tag) -> bool
     ensures { result ≡ is (bytes_of a) (bytes_of b) }
 {
-    let n = at_most(a.len, 32);
-    let k = at_most(b.len, 32);
-    if n != k {
-        return false;
-    }
-    let mut i = n;
-    while 0 < i {
-        i -= 1;
-        if a.bytes[i] != b.bytes[i] {
-            return false;
-        }
-    }
-    true
+    a == b
 }

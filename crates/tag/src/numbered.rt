@@ -1,72 +1,51 @@
-// The numbered tag: base, `_` and a number in decimal.
-ghost use Rattle.std.specs.Prelude.{◌≡◌, cond, [], ◌∷◌, ◌++◌, ◌+◌, ◌%◌};
-ghost use Rattle.tag.specs.Tags.{Tag as Bytes, numbered};
+// The numbered tag: a tag, `_` and a number in decimal.
+ghost use Rattle.std.specs.Prelude.{◌≡◌, cond, nat_lt, ◌++◌, ◌+◌, ◌%◌};
+ghost use Rattle.tag.specs.Tags.{numbered};
 ghost use Rattle.tag.specs.View.{bytes_of};
 ghost use Rattle.tag.specs.Fitted.{Fitted};
 
-use crate::{Tag, at_most, tag_of};
-
-// Whether the bytes fit a tag, and the tag of the first 32 of them.
-#[derive(Clone, Copy)]
-pub struct Numbered {
-    pub fits: bool,
-    pub tag: Tag,
-}
+use crate::{Tag, tag_of};
 
 // The last decimal digit of k.
 fn digit(k: usize) -> u8
     ensures { result ≡ 48 + k % 10 }
 {
-    48 + (k % 10) as u8
+    b'0' + (k % 10) as u8
 }
 
-// One byte more.
-fn push(n: Numbered, b: u8) -> Numbered
-    ensures { (t : Bytes) → Fitted t n → Fitted (t ++ (b ∷ [])) result }
+// How many of four digits are zeros ahead of the number.
+fn leading_zeros(k: usize) -> usize
+    ensures { result ≡ cond (nat_lt k 10) 3 (cond (nat_lt k 100) 2 (cond (nat_lt k 1000) 1 0)) }
 {
-    let t = n.tag;
-    let len = t.len;
-    if 32 <= len {
-        return Numbered {
-            fits: false,
-            tag: t,
-        };
-    }
-    let mut bytes = t.bytes;
-    bytes[len] = b;
-    let more = Tag {
-        bytes: bytes,
-        len: len + 1,
-    };
-    Numbered {
-        fits: true,
-        tag: more,
+    match k {
+        0..=9 => 3,
+        10..=99 => 2,
+        100..=999 => 1,
+        _ => 0,
     }
 }
 
-// One byte more, where asked for.
-fn push_if(n: Numbered, on: bool, b: u8) -> Numbered
-    ensures { (t : Bytes) → Fitted t n → Fitted (t ++ cond on (b ∷ []) []) result }
-{
-    if on {
-        return push(n, b);
+impl Tag {
+    // The tag with more bytes behind it, where there is room.
+    fn joined(&self, more: &[u8]) -> Option<Tag>
+        ensures { Fitted (bytes_of self.now ++ more.now) result }
+    {
+        let mut tag = tag_of(self.as_bytes());
+        let start = tag.len;
+        let end = start + more.len();
+        if 32 < end {
+            return None;
+        }
+        tag.bytes[start..end].copy_from_slice(more);
+        tag.len = end;
+        Some(tag)
     }
-    n
-}
 
-// The numbered tag. A number has four digits at most, its last ones.
-pub fn numbered_tag(base: Tag, k: usize) -> Numbered
-    ensures { Fitted (numbered (bytes_of base) k) result }
-{
-    let n = at_most(base.len, 32);
-    let b = base.bytes;
-    let start = Numbered {
-        fits: true,
-        tag: tag_of(&b[..n]),
-    };
-    let line = push(start, b'_');
-    let thousands = push_if(line, 1000 <= k, digit(k / 1000));
-    let hundreds = push_if(thousands, 100 <= k, digit(k / 100));
-    let tens = push_if(hundreds, 10 <= k, digit(k / 10));
-    push(tens, digit(k))
+    // The numbered tag, where it is not too long. A number has four digits at most, its last ones.
+    pub fn numbered(&self, k: usize) -> Option<Tag>
+        ensures { Fitted (numbered (bytes_of self.now) k) result }
+    {
+        let digits = [digit(k / 1000), digit(k / 100), digit(k / 10), digit(k)];
+        self.joined(b"_")?.joined(&digits[leading_zeros(k)..])
+    }
 }

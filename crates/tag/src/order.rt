@@ -1,23 +1,42 @@
 // The byte order of tags, a prefix first.
-ghost use Rattle.std.specs.Prelude.{◌≡◌};
+ghost use Rattle.std.specs.Prelude.{◌≡◌, refl};
+ghost use Rattle.std.specs.Cmp.{po};
+ghost use Rattle.std.specs.Cmp.Lexicographic.{slice_cmp, on_texts};
+ghost use Rattle.std.specs.Ordering.{nat_cmp, as_partial_cmp, on};
 ghost use Rattle.tag.specs.Tags.{before};
 ghost use Rattle.tag.specs.View.{bytes_of};
+ghost use Rattle.tag.specs.Comparing.{is_ties};
 
-use crate::{Tag, at_most};
+use crate::Tag;
+use std::cmp::Ordering;
+
+impl PartialOrd for Tag {
+    ghost partial_cmp = { as_partial_cmp (on bytes_of (slice_cmp nat_cmp)) };
+
+    ghost laws = { po (on_texts bytes_of) (λ a b. is_ties (bytes_of a) (bytes_of b)) };
+
+    fn partial_cmp(&self, other: &Tag) -> Option<Ordering> {
+        Some(self.cmp(other))
+    }
+}
+
+impl Ord for Tag {
+    ghost cmp = { on bytes_of (slice_cmp nat_cmp) };
+
+    ghost total = { on_texts bytes_of };
+
+    ghost matches_partial_cmp = { λ _ _. refl };
+
+    ghost matches_eq = { λ a b. is_ties (bytes_of a) (bytes_of b) };
+
+    fn cmp(&self, other: &Tag) -> Ordering {
+        self.as_bytes().cmp(other.as_bytes())
+    }
+}
 
 // Whether a stands ahead of b.
 pub fn comes_before(a: Tag, b: Tag) -> bool
     ensures { result ≡ before (bytes_of a) (bytes_of b) }
 {
-    let n = at_most(a.len, 32);
-    let k = at_most(b.len, 32);
-    let both = at_most(n, k);
-    let mut i: usize = 0;
-    while i < both {
-        if a.bytes[i] != b.bytes[i] {
-            return a.bytes[i] < b.bytes[i];
-        }
-        i += 1;
-    }
-    n < k
+    a < b
 }

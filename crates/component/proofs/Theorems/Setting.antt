@@ -2,29 +2,28 @@
 use mathlib.Core.Path.{◌≡◌, refl, subst}
 use mathlib.Core.Bool.{Bool, true, false, cond}
 use lib.Ieee.{Float}
+use Rattle.std.specs.Prelude.{Ok, Err}
 use Rattle.tag.specs.Tags.{is}
 use Rattle.geometry.specs.declared.vec3f.Vec3.{Vec3}
 use Rattle.component.specs.Value.{input_count}
-use Rattle.component.specs.Parameter.{Name, name_centre, name_radius, name_thickness, name_factor, name_from_min, name_from_max, name_to_min, name_to_max, name_distance, too_near, apart, set_value, set_vec3, set_parameter}
+use Rattle.component.specs.Parameter.{Name, Setting, name_centre, name_radius, name_thickness, name_factor, name_from_min, name_from_max, name_to_min, name_to_max, name_distance, too_near, apart, set_value, set_vec3, set_parameter}
 use Rattle.component.specs.declared.parameter.Data.{Data}
 use Rattle.component.specs.declared.parameter.Data.TheVariants.{Value, Vec3 as Vector, Boolean}
-use Rattle.component.specs.declared.model_component.Setting.{Setting}
-use Rattle.component.specs.declared.model_component.Setting.TheVariants.{Changed, DoesNotFit, TooNear}
+use Rattle.component.specs.declared.parameter.ParameterError.TheVariants.{TooNear}
 use Rattle.component.specs.declared.model_component.Component.{Component}
 use Rattle.component.specs.declared.model_component.Component.TheVariants.{Constant, Sphere, Torus, Multiply, Add, Subtract, Divide, Lerp, VariableLerp, Remap, BooleanUnion, BooleanIntersection, BooleanDifference, Offset, Thickness}
 
 -- what was changed takes as many inputs as c
 abbrev pub Keeps : Component → Setting → Type 0
-Keeps c (Changed d) = input_count d ≡ input_count c
-Keeps c DoesNotFit = Unit {0}
-Keeps c TooNear = Unit {0}
+Keeps c (Ok d) = input_count d ≡ input_count c
+Keeps c (Err e) = Unit {0}
 
 keeps_if : (c : Component) (b : Bool) (s t : Setting) → Keeps c s → Keeps c t → Keeps c (cond b s t)
 keeps_if c true s t h k = h
 keeps_if c false s t h k = k
 
 keeps_apart : (c : Component) (a b : Float) (d : Component) → input_count d ≡ input_count c → Keeps c (apart a b d)
-keeps_apart c a b d e = keeps_if c (too_near a b) TooNear (Changed d) tt e
+keeps_apart c a b d e = keeps_if c (too_near a b) (Err TooNear) (Ok d) tt e
 
 keeps_value : (c : Component) (n : Name) (v : Float) → Keeps c (set_value c n v)
 unfolding set_value
@@ -73,5 +72,5 @@ keeps_setting c n (Value v) = keeps_value c n v
 keeps_setting c n (Vector v) = keeps_vec3 c n v
 keeps_setting c n (Boolean b) = tt
 
-pub same_count : (c d : Component) (n : Name) (x : Data) → set_parameter c n x ≡ Changed d → input_count d ≡ input_count c
+pub same_count : (c d : Component) (n : Name) (x : Data) → set_parameter c n x ≡ Ok d → input_count d ≡ input_count c
 same_count c d n x e = subst (Keeps c) e (keeps_setting c n x)

@@ -1,37 +1,24 @@
--- The wires in an array: which nodes stand in the places of one, when one is ready, and laying. Assumes nothing.
-use Prim.Native.Nat.{ℕ, zero, suc, ◌+◌, ◌*◌, ◌≤◌, ◌<◌}
-use native.Mathlib.Numerals.{add-one}
+-- The wires in an array: which nodes stand in the places of one; and members of lists by their places. Assumes nothing.
+use Prim.Native.Nat.{ℕ, zero, suc, ◌+◌, ◌-◌, ◌*◌, ◌≤◌, ◌<◌}
 use native.Mathlib.Omega.{arith}
-use native.Mathlib.Decide.{ℕ_discrete, dec_lt}
+use native.Mathlib.Decide.{ℕ_discrete}
 use mathlib.Core.Path.{◌≡◌, refl, sym, ap, subst, ◌∙◌}
-use mathlib.Core.Logic.{◌↔◌, ◌⊎◌, inl, inr, ⊎_elim}
+use mathlib.Core.Logic.{◌⊎◌, inl, inr, ⊎_elim}
 use mathlib.Core.Bool.{Bool, true, false, cond, true≢false, false≢true}
 use mathlib.Core.List.Memᴰ
-use mathlib.Core.List.{List, [], ◌∷◌, ◌++◌}
-use lib.ListN.{length, get_or, take, set, length-append, length-set}
-use lib.Seq.{take-suc, length-take-le, take-suc-set, get_or-set_same, get_or-set_other}
-use lib.Dec.{ltb, eqb}
-use borrow.Author.Tests.{ltb-true, lt-ltb, eqb-true, eqb-false, ne_eqb}
-use Rattle.nodes.specs.Nodes.{◌∈◌, Reaches, itself, Circular, Laid, IsOrder, keep, node, inputs_of, served_of, ready_of, next_of, whole_of, IsReach, NextIn}
-use Rattle.nodes.proofs.Laws.Order.{laid_none, laid_more, laid-length, laid-order, stuck_cyclic, reach_in}
-
--- ---- tests taken apart
-
-cond-true : (a b : Bool) → cond a b false ≡ true → (a ≡ true) × (b ≡ true)
-cond-true true b e = (refl, e)
-cond-true false b e = absurd (false≢true e)
-
-cond-false : (a b : Bool) → cond a b false ≡ false → (a ≡ false) ⊎ (b ≡ false)
-cond-false true b e = inr e
-cond-false false b e = inl refl
-
-not_true_is_false : (a : Bool) → (a ≡ true → ⊥) → a ≡ false
-not_true_is_false true n = absurd (n refl)
-not_true_is_false false n = refl
-
-not_false_is_true : (a : Bool) → ¬ (a ≡ false) → a ≡ true
-not_false_is_true true n = refl
-not_false_is_true false n = absurd (n refl)
+use mathlib.Core.List.{List, [], ◌∷◌, reverse}
+use lib.ListN.{length, get_or, take, length-reverse}
+use lib.Dec.{ltb}
+use borrow.Author.Tests.{ltb-true, lt-ltb}
+use denote.Ref.{Bor}
+use Rattle.std.specs.Prelude.{Option, Some, None}
+use Rattle.std.specs.Bool.{MatchBool}
+use Rattle.std.specs.Option.{MatchOption, option_copied}
+use Rattle.std.proofs.lemmas.List.{get_or-reverse}
+use Rattle.std.proofs.lemmas.Grind.{get_or_default_zero}
+use Rattle.std.specs.List.{AllWithin, HoldsAt}
+use Rattle.nodes.specs.Nodes.{◌∈◌, Reaches, keep, node, inputs_of, entries_of, Next, NotNext, NextIn, filled_of, whole_of}
+use Rattle.nodes.proofs.Laws.Order.{reach_in}
 
 -- ---- the nodes in three places
 
@@ -51,16 +38,6 @@ node-tail {b} x l m = go (ltb x 192)
     go : (v : Bool) → b ∈ keep v x l
     go true = Memᴰ.tail m
     go false = m
-
-served_true : (m : List ℕ) (x : ℕ) → served_of m x ≡ true → x < 192 → get_or m x 0 ≡ 1
-served_true m x e h = eqb-true _ _ (sym (ap (λ (v : Bool). cond v (eqb (get_or m x 0) 1) true) (lt-ltb x 192 h)) ∙ e)
-
-served_false : (m : List ℕ) (x : ℕ) → served_of m x ≡ false → (x < 192) × (¬ (get_or m x 0 ≡ 1))
-served_false m x = go (ltb x 192) refl
-  where
-    go : (v : Bool) → ltb x 192 ≡ v → cond v (eqb (get_or m x 0) 1) true ≡ false → (x < 192) × (¬ (get_or m x 0 ≡ 1))
-    go true e f = (ltb-true x 192 e, eqb-false _ _ f)
-    go false e f = absurd (true≢false f)
 
 module _ (w : List ℕ) (i : ℕ) where
   -- an entry below 192 is an input, and every input is one
@@ -85,20 +62,22 @@ module _ (w : List ℕ) (i : ℕ) where
   unfolding inputs_of
   entry_2 h = node-tail (get_or w (i * 3) 0) (node (get_or w (i * 3 + 1) 0) (node (get_or w (i * 3 + 2) 0) [])) (node-tail (get_or w (i * 3 + 1) 0) (node (get_or w (i * 3 + 2) 0) []) (node-head _ [] h))
 
-  pub ready_true : (m : List ℕ) → ready_of w m i ≡ true → (b : ℕ) → b ∈ inputs_of w i → get_or m b 0 ≡ 1
-  ready_true m e b k =
-      let (e₀, e') = cond-true _ _ e in
-      let (e₁, e₂) = cond-true _ _ e' in
-      let (h, which) = entry_cases b k in
-      ⊎_elim (λ f. ap (λ (z : ℕ). get_or m z 0) f ∙ served_true m _ e₀ (subst (λ (z : ℕ). z < 192) f h))
-      (⊎_elim (λ f. ap (λ (z : ℕ). get_or m z 0) f ∙ served_true m _ e₁ (subst (λ (z : ℕ). z < 192) f h)) (λ f. ap (λ (z : ℕ). get_or m z 0) f ∙ served_true m _ e₂ (subst (λ (z : ℕ). z < 192) f h)))
-      which
+  pub input_entry : {b : ℕ} → b ∈ inputs_of w i → (b < 192) × (b ∈ entries_of w i)
+  input_entry {b} m = let (h, which) = entry_cases b m in
+      (h, ⊎_elim (λ e. Memᴰ.head e) (⊎_elim (λ e. Memᴰ.tail (Memᴰ.head e)) (λ e. Memᴰ.tail (Memᴰ.tail (Memᴰ.head e)))) which)
 
-  pub ready_false : (m : List ℕ) → ready_of w m i ≡ false → (b : ℕ) × (b ∈ inputs_of w i) × (¬ (get_or m b 0 ≡ 1))
-  ready_false m e = ⊎_elim
-      (λ f. let (h, n) = served_false m _ f in (get_or w (i * 3) 0, entry_0 h, n))
-      (λ e'. ⊎_elim (λ f. let (h, n) = served_false m _ f in (get_or w (i * 3 + 1) 0, entry_1 h, n)) (λ f. let (h, n) = served_false m _ f in (get_or w (i * 3 + 2) 0, entry_2 h, n)) (cond-false _ _ e'))
-      (cond-false _ _ e)
+  pub entry_input : {b : ℕ} → b < 192 → b ∈ entries_of w i → b ∈ inputs_of w i
+  entry_input {b} h m = ⊎_elim (λ e. at_one e (entry_0 (low e)))
+      (λ m₁. ⊎_elim (λ e. at_one e (entry_1 (low e)))
+      (λ m₂. ⊎_elim (λ e. at_one e (entry_2 (low e))) (λ m₃. absurd (Memᴰ.not-nil m₃)) (Memᴰ.cases_cons m₂))
+      (Memᴰ.cases_cons m₁))
+      (Memᴰ.cases_cons m)
+    where
+      low : {x : ℕ} → b ≡ x → x < 192
+      low e = subst (λ (z : ℕ). z < 192) e h
+
+      at_one : {x : ℕ} → b ≡ x → x ∈ inputs_of w i → b ∈ inputs_of w i
+      at_one e k = subst (λ (z : ℕ). z ∈ inputs_of w i) (sym e) k
 
 -- ---- the numbers below n
 
@@ -130,110 +109,54 @@ take_at [] (suc n) k h f = absurd (let z : ⊥ = omega arith in z)
 take_at (x ∷ l) (suc n) zero h f = Memᴰ.head refl
 take_at (x ∷ l) (suc n) (suc k) h f = Memᴰ.tail (take_at l n k (omega arith) (omega arith))
 
-pub take-index : (l : List ℕ) (n a : ℕ) → a ∈ take n l → (k : ℕ) × (k < n) × (a ≡ get_or l k 0)
-take-index l zero a m = absurd (Memᴰ.not-nil m)
-take-index [] (suc n) a m = absurd (Memᴰ.not-nil m)
-take-index (x ∷ l) (suc n) a m = ⊎_elim (λ e. (0, omega arith, e)) (λ m'. let (k, h, e) = take-index l n a m' in (suc k, omega arith, e)) (Memᴰ.cases_cons m)
+-- ---- a test of each of a list
 
--- one more marked, and one more listed
-pub marks-more : (m : List ℕ) (xs : List ℕ) (x : ℕ) → x < length m → (a : ℕ) → (get_or m a 0 ≡ 1) ↔ (a ∈ xs) → Dec (a ≡ x) → (get_or (set m x 1) a 0 ≡ 1) ↔ (a ∈ xs ++ (x ∷ []))
-marks-more m xs x h a g (yes e) = ((λ one. Memᴰ.append_right xs (Memᴰ.head e)), (λ k. ap (λ (z : ℕ). get_or (set m x 1) z 0) e ∙ get_or-set_same m x 1 0 h))
-marks-more m xs x h a g (no ne) = (
-  (λ one. Memᴰ.append_left (x ∷ []) (g.0 (sym (get_or-set_other m x a 1 0 ne) ∙ one))),
-  (λ k. get_or-set_other m x a 1 0 ne ∙ ⊎_elim (λ j. g.1 j) (λ j. absurd (ne (Memᴰ.eq_of_singleton j))) (Memᴰ.append_cases xs k)),
-)
+pub place_of : (l : List ℕ) (a : ℕ) → a ∈ l → (k : ℕ) × (k < length l) × (a ≡ get_or l k 0)
+place_of [] a m = absurd (Memᴰ.not-nil m)
+place_of (x ∷ l) a m = ⊎_elim (λ e. (0, omega arith, e)) (λ m'. let (k, h, e) = place_of l a m' in (suc k, omega arith, e)) (Memᴰ.cases_cons m)
 
--- ---- laying: the loop's invariant and its step
+pub member_at : (l : List ℕ) (k : ℕ) → k < length l → get_or l k 0 ∈ l
+member_at [] k h = absurd (let z : ⊥ = omega arith in z)
+member_at (x ∷ l) zero h = Memᴰ.head refl
+member_at (x ∷ l) (suc k) h = Memᴰ.tail (member_at l k (omega arith))
 
--- what holds while the nodes of t's reach are laid: the first n entries of `at` are laid, and `placed` marks them
-pub record Going (w : List ℕ) (t : ℕ) (at placed : List ℕ) (n : ℕ) : Type 0 where
-  pub at_length : length at ≡ 192
-  pub placed-length : length placed ≡ 192
-  pub n_le : n ≤ 192
-  pub laid : Laid (inputs_of w) (take n at)
-  pub only : (a : ℕ) → a ∈ take n at → Reaches (inputs_of w) t a
-  pub marks : (a : ℕ) → a < 192 → (get_or placed a 0 ≡ 1) ↔ (a ∈ take n at)
+-- what `all` says of a test of each of l
+abbrev pub Tested : (Yes No : ℕ → Type 0) → List ℕ → Bool → Type 0
+Tested Yes No l r = MatchBool r (AllWithin Yes l 0 (length l)) ((k : ℕ) × (k < length l) × HoldsAt No l k)
 
--- what can be placed next is new, and has its inputs placed
-next-true : (w placed : List ℕ) (i : ℕ) → next_of w placed i ≡ true → (¬ (get_or placed i 0 ≡ 1)) × (ready_of w placed i ≡ true)
-next-true w placed i e = let (p, r) = cond-left (eqb (get_or placed i 0) 1) (ready_of w placed i) e in (eqb-false _ _ p, r)
-  where
-    cond-left : (a b : Bool) → cond a false b ≡ true → (a ≡ false) × (b ≡ true)
-    cond-left true b e = absurd (false≢true e)
-    cond-left false b e = (refl, e)
+module _ (Yes No : ℕ → Type 0) (l : List ℕ) where
+  pub each_passes : (r : Bool) → Tested Yes No l r → r ≡ true → (x : ℕ) → x ∈ l → Yes x
+  each_passes true t e x m = let (k, h, f) = place_of l x m in subst Yes (sym f) (t k 0 (omega arith) h)
+  each_passes false t e x m = absurd (false≢true e)
 
--- what can't, and is new, is not ready
-next-false : (w placed : List ℕ) (i : ℕ) → next_of w placed i ≡ false → ¬ (get_or placed i 0 ≡ 1) → ready_of w placed i ≡ false
-next-false w placed i e n = sym (ap (λ (v : Bool). cond v false (ready_of w placed i)) (ne_eqb _ _ n)) ∙ e
+  pub one_fails : (r : Bool) → Tested Yes No l r → r ≡ false → (x : ℕ) × (x ∈ l) × No x
+  one_fails true t e = absurd (true≢false e)
+  one_fails false t e = (get_or l t.0 0, member_at l t.0 t.1, t.2 0)
 
-module _ (w : List ℕ) (t : ℕ) (small : t < 192) where
-  pub going_start : (at placed : List ℕ) → length at ≡ 192 → length placed ≡ 192 → ((a : ℕ) → a < 192 → get_or placed a 0 ≡ 0) → Going w t at placed 0
-  going_start at placed e f zeros = record {
-    at_length = e;
-    placed-length = f;
-    n_le = omega arith;
-    laid = laid_none (inputs_of w);
-    only = λ a m. absurd (Memᴰ.not-nil m);
-    marks = λ a h. ((λ one. absurd (let z : ◌≡◌ {A = ℕ} 0 1 = sym (zeros a h) ∙ one in let bad : ⊥ = omega arith in bad)), (λ m. absurd (Memᴰ.not-nil m)));
-  }
+-- ---- a search from the back
 
-  pub going_done : (at placed : List ℕ) (n : ℕ) → Going w t at placed n → get_or placed t 0 ≡ 1 → IsOrder (inputs_of w) t (take n at)
-  going_done at placed n g e = laid-order (inputs_of w) t (take n at) g.laid g.only ((g.marks t small).0 e)
+pub reversed_at : (l : List ℕ) (x k : ℕ) → k < length (reverse l) → x ≡ get_or (reverse l) k x → x ∈ l
+reversed_at l x k h e = Memᴰ.cast (e ∙ get_or_default_zero (reverse l) k x h ∙ get_or-reverse l k 0 (omega (arith, length-reverse l))) (member_at l (length l - 1 - k) (omega (arith, length-reverse l)))
 
-  module _ {line : List ℕ} {len : ℕ} {seen : List ℕ} (reach : IsReach w t line len seen) {at placed : List ℕ} {n : ℕ} (g : Going w t at placed n) {i : ℕ} (f : NextIn w line len placed i) where
-    fed : i < 192 → (b : ℕ) → b ∈ inputs_of w i → b ∈ take n at
-    fed h b m = (g.marks b (entry_cases w i b m).0).0 (ready_true w i placed (next-true w placed i (f.found h).1).1 b m)
+module _ (w line xs : List ℕ) where
+  pub found_next : (r : Option (Bor ℕ)) → MatchOption r (AllWithin (NotNext w xs) (reverse line) 0 (length (reverse line)))
+      (λ x. Next w xs x.now × (i : ℕ) × (i < length (reverse line)) × HoldsAt (λ y. y ≡ x.now) (reverse line) i × AllWithin (NotNext w xs) (reverse line) 0 i)
+      → NextIn w line xs (option_copied r)
+  found_next None none = λ a m. let (k, h, e) = place_of line a m in
+      let f : get_or (reverse line) (length line - 1 - k) 0 ≡ get_or line k 0 = get_or-reverse line (length line - 1 - k) 0 (omega arith) ∙ ap (λ (z : ℕ). get_or line z 0) (omega arith) in
+      subst (NotNext w xs) (f ∙ sym e) (none (length line - 1 - k) 0 (omega arith) (omega (arith, length-reverse line)))
+  found_next (Some x) (n, i, h, at, before) = (reversed_at line x.now i h (sym (at x.now)), n)
 
-    laid_next : i < 192 → Laid (inputs_of w) (take n at ++ (i ∷ []))
-    laid_next h = laid_more (inputs_of w) g.laid i (λ m. (next-true w placed i (f.found h).1).0 ((g.marks i h).1 m)) (fed h)
+-- ---- whole nodes
 
-    only_next : i < 192 → (a : ℕ) → a ∈ take n at ++ (i ∷ []) → Reaches (inputs_of w) t a
-    only_next h a m = ⊎_elim (g.only a) (λ k. subst (λ (z : ℕ). Reaches (inputs_of w) t z) (sym (Memᴰ.eq_of_singleton k)) (reach.only i (f.found h).0)) (Memᴰ.append_cases (take n at) m)
+cond_none : (p q : Bool) → q ≡ false → cond p q false ≡ false
+cond_none true q e = e
+cond_none false q e = refl
 
-    pub going_room : i < 192 → n < 192
-    going_room h =
-        let k : length (take n at ++ (i ∷ [])) ≤ length (up_to 192) = laid-length (inputs_of w) (take n at ++ (i ∷ [])) (laid_next h) (up_to 192) (λ a m. mem_up_to 192 a (reach-small w t small a (only_next h a m))) in
-        let e : length (take n at) ≡ n = length-take-le n at (omega (arith, g.at_length, g.n_le)) in
-        omega (arith, length-append (take n at) (i ∷ []), length_up_to 192)
-
-    pub going_more : i < 192 → Going w t (set at n i) (set placed i 1) (n + 1)
-    going_more h = record {
-      at_length = length-set at n i ∙ g.at_length;
-      placed-length = length-set placed i 1 ∙ g.placed-length;
-      n_le = omega (arith, going_room h);
-      laid = subst (Laid (inputs_of w)) (sym grown) (laid_next h);
-      only = λ a m. only_next h a (subst (λ (l : List ℕ). a ∈ l) grown m);
-      marks = λ a ha. subst (λ (l : List ℕ). (get_or (set placed i 1) a 0 ≡ 1) ↔ (a ∈ l)) (sym grown) (marks-more placed (take n at) i (omega (arith, g.placed-length)) a (g.marks a ha) (ℕ_discrete a i));
-    }
-      where
-        grown : take (n + 1) (set at n i) ≡ take n at ++ (i ∷ [])
-        grown = rw add-one (take-suc-set at n i (omega (arith, going_room h, g.at_length)))
-
-    pub going_stuck : 192 ≤ i → ¬ (get_or placed t 0 ≡ 1) → Circular (inputs_of w) t
-    going_stuck h nt = stuck_cyclic (inputs_of w) t (λ (a : ℕ). get_or placed a 0 ≡ 1) (λ a ra na. ready_false w a placed (next-false w placed a (f.none h a (reach.all a ra)) na)) (up_to 192) (λ x rx nx. mem_up_to 192 x (reach-small w t small x rx)) t itself nt
-
--- the search from the back: those from i on can't be next
-pub record Passed (w at : List ℕ) (n : ℕ) (placed : List ℕ) (i : ℕ) : Type 0 where
-  pub i_le : i ≤ n
-  pub none : (k : ℕ) → i ≤ k → k < n → next_of w placed (get_or at k 0) ≡ false
-
-module _ (w at : List ℕ) (n : ℕ) (placed : List ℕ) where
-  pub passed_more : (i j : ℕ) → Passed w at n placed i → j + 1 ≡ i → next_of w placed (get_or at j 0) ≡ false → Passed w at n placed j
-  passed_more i j p e f = record { i_le = omega (arith, p.i_le); none = λ k h lt. by k h lt (dec_lt j k) }
-    where
-      by : (k : ℕ) → j ≤ k → k < n → Dec (j < k) → next_of w placed (get_or at k 0) ≡ false
-      by k h lt (yes g) = p.none k (omega arith) lt
-      by k h lt (no ng) = let q : j ≡ k = omega arith in subst (λ (z : ℕ). next_of w placed (get_or at z 0) ≡ false) q f
-
-  pub passed_end : (i : ℕ) → Passed w at n placed i → i ≤ 0 → NextIn w at n placed 192
-  passed_end i p h = record {
-    within = omega arith;
-    found = λ lt. absurd (let z : ⊥ = omega arith in z);
-    none = λ h' a m. let (k, lt, e) = take-index at n a m in subst (λ (z : ℕ). next_of w placed z ≡ false) (sym e) (p.none k (omega arith) lt);
-  }
-
--- ---- whole nodes, one after the other
-
-pub whole_more : (w at : List ℕ) (i : ℕ) → i < length at → ((x : ℕ) → x ∈ take i at → whole_of w x ≡ true) → whole_of w (get_or at i 0) ≡ true → (x : ℕ) → x ∈ take (i + 1) at → whole_of w x ≡ true
-whole_more w at i h old new x k = ⊎_elim (old x) (λ j. let q : x ≡ get_or at i 0 = Memᴰ.eq_of_singleton j in subst (λ (z : ℕ). whole_of w z ≡ true) (sym q) new)
-    (Memᴰ.append_cases (take i at) (subst (λ (l : List ℕ). x ∈ l) (rw add-one (take-suc at i 0 h)) k))
+module _ (w : List ℕ) (i : ℕ) (h : i < 64) where
+  pub whole_tested : (r : Bool) → Tested (λ x. filled_of x ≡ true) (λ x. filled_of x ≡ false) (entries_of w i) r → r ≡ whole_of w i
+  whole_tested true t = simp (lt-ltb i 64 h, t 0 0 (omega arith) (omega arith), t 1 0 (omega arith) (omega arith), t 2 0 (omega arith) (omega arith))
+  whole_tested false (zero, k, f) = simp (lt-ltb i 64 h, f 0)
+  whole_tested false (suc zero, k, f) = simp (lt-ltb i 64 h, f 0) (sym (cond_none _ _ refl))
+  whole_tested false (suc (suc zero), k, f) = simp (lt-ltb i 64 h, f 0) (sym (cond_none _ _ (cond_none _ _ refl)))
+  whole_tested false (suc (suc (suc n)), k, f) = absurd (let z : ⊥ = omega arith in z)

@@ -1,18 +1,11 @@
--- `nodes::is_whole` meets its contract. Assumes nothing.
-use borrow.Author.Tests.{lt-ltb, le-ltb, not-true, not-false}
+-- `nodes::is_whole` meets its contract: `Laws/Wires.antt`. Assumes nothing.
+use Rattle.std.proofs.Common.{◌≡◌, true, false, subst, rules}
+use Rattle.std.proofs.lemmas.Iterator.{cases_from_all, YieldsList-from_slice}
+use borrow.Author.Tests.{tests}
+use Rattle.nodes.specs.Nodes.{filled_of}
+use Rattle.nodes.proofs.Laws.Wires.{Tested, whole_tested}
 use Rattle.nodes.proofs.is_whole.Goals as goal
 
-pub returns-then-i-ge64 : goal.returns-then-i-ge64
-returns-then-i-ge64 c = simp (le-ltb _ _ c.if-i-ge64.true)
-
-pub returns-then-not-is_filled : goal.returns-then-not-is_filled
-returns-then-not-is_filled c =
-    simp (lt-ltb _ _ c.if-i-ge64.false, ← c.is_filled.ensures, not-true c.is_filled.result c.if-not-is_filled.true-raw)
-
-pub returns-then-not-is_filled-2 : goal.returns-then-not-is_filled-2
-returns-then-not-is_filled-2 c =
-    simp (lt-ltb _ _ c.if-i-ge64.false, ← c.is_filled.ensures, not-false c.is_filled.result c.if-not-is_filled.false-raw, ← c.is_filled-2.ensures, not-true c.is_filled-2.result c.if-not-is_filled-2.true-raw)
-
-pub returns : goal.returns
-returns c =
-    simp (lt-ltb _ _ c.if-i-ge64.false, ← c.is_filled.ensures, not-false c.is_filled.result c.if-not-is_filled.false-raw, ← c.is_filled-2.ensures, not-false c.is_filled-2.result c.if-not-is_filled-2.false-raw) c.is_filled-3.ensures
+pub returns-then-i-lt64 : goal.returns-then-i-lt64
+returns-then-i-lt64 c = whole_tested c.args.w.now c.args.i c.if-i-lt64.true c.all.result (subst (λ l. Tested (λ x. filled_of x ≡ true) (λ x. filled_of x ≡ false) l c.all.result) c.entries.ensures
+    (cases_from_all _ _ _ (λ x. filled_of x ≡ true) (λ x. filled_of x ≡ false) c.all.ensures.ran (YieldsList-from_slice c.entries.result.now cc) (λ x q k. search (rules, tests)) (λ x q k. search (rules, tests))))

@@ -1,19 +1,20 @@
 -- `nodes::lay_out` meets its contract. Assumes nothing.
-use native.Mathlib.Omega.{arith}
+use Rattle.std.proofs.Common.{◌≡◌, ℕ, true, false, subst, rules}
+use Rattle.std.proofs.lemmas.Iterator.{cases_from_all, YieldsList-from_slice}
+use borrow.Author.Tests.{tests}
+use Rattle.nodes.specs.Nodes.{whole_of}
+use Rattle.nodes.proofs.Laws.Wires.{Tested, each_passes}
 use Rattle.nodes.proofs.lay_out.Goals as goal
 
-pub returns-then-t-ge192 : goal.returns-then-t-ge192
-returns-then-t-ge192 c = λ h. absurd (let z : ⊥ = omega (arith, c.if-t-ge192.true) in z)
+module _ (c : goal.After-all-whole) where
+  abbrev IsWhole : ℕ → Type 0
+  IsWhole x = whole_of c.args.w.now x ≡ true
 
-pub reach-s-requires : goal.reach-s-requires
-reach-s-requires c = c.if-t-ge192.false
+  abbrev NotWhole : ℕ → Type 0
+  NotWhole x = whole_of c.args.w.now x ≡ false
 
-pub lay-o-requires : goal.lay-o-requires
-lay-o-requires c = (c.if-t-ge192.false, c.reach-s.ensures)
-
-pub all_whole-whole-requires : goal.all_whole-whole-requires
-all_whole-whole-requires c = c.reach-s.ensures.listed
+  tested : Tested IsWhole NotWhole c.reach-reach.result c.all-whole.result
+  tested = subst (λ l. Tested IsWhole NotWhole l c.all-whole.result) c.nodes.ensures.same (cases_from_all _ _ _ IsWhole NotWhole c.all-whole.ensures.ran (YieldsList-from_slice c.nodes.result.now cc) (λ x q k. search (rules, tests)) (λ x q k. search (rules, tests)))
 
 pub returns : goal.returns
-returns c =
-    λ h. record { line = c.reach-s.result.at; count = c.reach-s.result.n; reach = c.reach-s.ensures; laid = c.lay-o.ensures; test = c.all_whole-whole.ensures }
+returns c = λ h. record { reached = c.reach-reach.ensures; laid = c.lay-order.ensures; test = each_passes (IsWhole c) (NotWhole c) c.reach-reach.result c.all-whole.result (tested c) }

@@ -1,97 +1,35 @@
--- `nodes::reach` meets its contract: `Laws/Line.antt`. Assumes nothing.
-use native.Mathlib.Omega.{arith}
-use Prim.Native.Nat.{◌<◌}
-use lib.ListN.{get_or}
-use mathlib.Core.Path.{refl}
-use Rattle.nodes.proofs.Laws.Line.{none-listed, going_first, going_small, going_turn, going_end}
+-- `nodes::reach` meets its contract: `Laws/Laying.antt`. Assumes nothing.
+use Rattle.std.proofs.Common.{arith, subst, ap, ◌∙◌}
+use Rattle.std.proofs.lemmas.Bool.Decides.{nat_tests}
+use lib.Seq.{take_all}
+use Rattle.nodes.specs.Nodes.{Met, entries_of}
+use Rattle.nodes.proofs.Laws.Lists.{distinct_few}
+use Rattle.nodes.proofs.Laws.Laying.{Grown, node_at, walking_first, walking_low, walking_turn, walking_end, grown_none, grown_at}
 use Rattle.nodes.proofs.reach.Goals as goal
 
-pub meet-n-requires : goal.meet-n-requires
-meet-n-requires c = none-listed
+pub loop-x-init : goal.loop-x-init
+loop-x-init c = walking_first c.args.w.now c.args.t c.requires (subst (λ l. Met l c.args.t c.meet.new.self) c.new-line.ensures c.meet.ensures)
 
-pub loop-i-init : goal.loop-i-init
-loop-i-init c = going_first c.args.w.now c.args.t c.requires _ 0 refl _ c.meet-n.result _ c.meet-n.ensures
+pub entries-y-items-requires : goal.entries-y-items-requires
+entries-y-items-requires c =
+    let (h, e) = node_at c.nodes.ensures.same c.in-Some.ensures.lookup.0 c.in-Some.ensures.lookup.1 in
+    rw e (walking_low c.args.w.now c.args.t c.loop-x.invariant h)
 
-pub offset_bounds-at-i : goal.offset_bounds-at-i
-offset_bounds-at-i c = omega (arith, c.loop-i.invariant.listed.n_le)
+pub loop-y-init : goal.loop-y-init
+loop-y-init c = grown_none c.loop-x.invariant.nodes
 
-pub bounds-at-i : goal.bounds-at-i
-bounds-at-i c = omega (arith, c.loop-i.invariant.listed.n_le)
+pub loop-y-preserved : goal.loop-y-preserved
+loop-y-preserved c = grown_at _ c.loop-y.y-index c.loop-y-test.true c.loop-y.invariant c.meet-in-loop-y.new.self c.meet-in-loop-y.ensures
 
-pub overflow_mul-x : goal.overflow_mul-x
-overflow_mul-x c =
-    let small : get_or c.loop-i.at c.loop-i.i 0 < 192 = going_small c.args.w.now c.args.t c.loop-i.at c.loop-i.n c.loop-i.seen c.loop-i.i c.loop-i.invariant c.loop-i-test.true in
-    omega (arith, small)
+pub loop-x-smaller : goal.loop-x-smaller
+loop-x-smaller c =
+    let (h, _) = node_at c.nodes.ensures.same c.in-Some.ensures.lookup.0 c.in-Some.ensures.lookup.1 in
+    omega (arith, distinct_few c.loop-x.invariant.nodes)
 
-pub offset_bounds-w-x : goal.offset_bounds-w-x
-offset_bounds-w-x c =
-    let small : get_or c.loop-i.at c.loop-i.i 0 < 192 = going_small c.args.w.now c.args.t c.loop-i.at c.loop-i.n c.loop-i.seen c.loop-i.i c.loop-i.invariant c.loop-i-test.true in
-    omega (arith, small)
-
-pub bounds-w-x : goal.bounds-w-x
-bounds-w-x c =
-    let small : get_or c.loop-i.at c.loop-i.i 0 < 192 = going_small c.args.w.now c.args.t c.loop-i.at c.loop-i.n c.loop-i.seen c.loop-i.i c.loop-i.invariant c.loop-i-test.true in
-    omega (arith, small)
-
-pub meet-n-requires-in-loop-i : goal.meet-n-requires-in-loop-i
-meet-n-requires-in-loop-i c = c.loop-i.invariant.listed
-
-pub overflow_mul-x-in-loop-i : goal.overflow_mul-x-in-loop-i
-overflow_mul-x-in-loop-i c =
-    let small : get_or c.loop-i.at c.loop-i.i 0 < 192 = going_small c.args.w.now c.args.t c.loop-i.at c.loop-i.n c.loop-i.seen c.loop-i.i c.loop-i.invariant c.loop-i-test.true in
-    omega (arith, small)
-
-pub overflow_add-x : goal.overflow_add-x
-overflow_add-x c =
-    let small : get_or c.loop-i.at c.loop-i.i 0 < 192 = going_small c.args.w.now c.args.t c.loop-i.at c.loop-i.n c.loop-i.seen c.loop-i.i c.loop-i.invariant c.loop-i-test.true in
-    omega (arith, small)
-
-pub offset_bounds-w-x-in-loop-i : goal.offset_bounds-w-x-in-loop-i
-offset_bounds-w-x-in-loop-i c =
-    let small : get_or c.loop-i.at c.loop-i.i 0 < 192 = going_small c.args.w.now c.args.t c.loop-i.at c.loop-i.n c.loop-i.seen c.loop-i.i c.loop-i.invariant c.loop-i-test.true in
-    omega (arith, small)
-
-pub bounds-w-x-in-loop-i : goal.bounds-w-x-in-loop-i
-bounds-w-x-in-loop-i c =
-    let small : get_or c.loop-i.at c.loop-i.i 0 < 192 = going_small c.args.w.now c.args.t c.loop-i.at c.loop-i.n c.loop-i.seen c.loop-i.i c.loop-i.invariant c.loop-i-test.true in
-    omega (arith, small)
-
-pub meet-n-requires-in-loop-i-2 : goal.meet-n-requires-in-loop-i-2
-meet-n-requires-in-loop-i-2 c = c.meet-n-in-loop-i.ensures.listed
-
-pub overflow_mul-x-in-loop-i-2 : goal.overflow_mul-x-in-loop-i-2
-overflow_mul-x-in-loop-i-2 c =
-    let small : get_or c.loop-i.at c.loop-i.i 0 < 192 = going_small c.args.w.now c.args.t c.loop-i.at c.loop-i.n c.loop-i.seen c.loop-i.i c.loop-i.invariant c.loop-i-test.true in
-    omega (arith, small)
-
-pub overflow_add-x-in-loop-i : goal.overflow_add-x-in-loop-i
-overflow_add-x-in-loop-i c =
-    let small : get_or c.loop-i.at c.loop-i.i 0 < 192 = going_small c.args.w.now c.args.t c.loop-i.at c.loop-i.n c.loop-i.seen c.loop-i.i c.loop-i.invariant c.loop-i-test.true in
-    omega (arith, small)
-
-pub offset_bounds-w-x-in-loop-i-2 : goal.offset_bounds-w-x-in-loop-i-2
-offset_bounds-w-x-in-loop-i-2 c =
-    let small : get_or c.loop-i.at c.loop-i.i 0 < 192 = going_small c.args.w.now c.args.t c.loop-i.at c.loop-i.n c.loop-i.seen c.loop-i.i c.loop-i.invariant c.loop-i-test.true in
-    omega (arith, small)
-
-pub bounds-w-x-in-loop-i-2 : goal.bounds-w-x-in-loop-i-2
-bounds-w-x-in-loop-i-2 c =
-    let small : get_or c.loop-i.at c.loop-i.i 0 < 192 = going_small c.args.w.now c.args.t c.loop-i.at c.loop-i.n c.loop-i.seen c.loop-i.i c.loop-i.invariant c.loop-i-test.true in
-    omega (arith, small)
-
-pub meet-n-requires-in-loop-i-3 : goal.meet-n-requires-in-loop-i-3
-meet-n-requires-in-loop-i-3 c = c.meet-n-in-loop-i-2.ensures.listed
-
-pub overflow_add-i : goal.overflow_add-i
-overflow_add-i c = omega (arith, c.loop-i.invariant.listed.n_le, c.loop-i-test.true)
-
-pub loop-i-smaller : goal.loop-i-smaller
-loop-i-smaller c = omega (arith, c.loop-i.invariant.listed.n_le, c.loop-i-test.true)
-
-pub loop-i-preserved : goal.loop-i-preserved
-loop-i-preserved c =
-    going_turn c.args.w.now c.args.t c.loop-i.at c.loop-i.n c.loop-i.seen c.loop-i.i c.loop-i.invariant c.loop-i-test.true _ c.meet-n-in-loop-i.result _ c.meet-n-in-loop-i.ensures _ c.meet-n-in-loop-i-2.result _ c.meet-n-in-loop-i-2.ensures _ c.meet-n-in-loop-i-3.result _ c.meet-n-in-loop-i-3.ensures
+pub loop-x-preserved : goal.loop-x-preserved
+loop-x-preserved c =
+    let (h, e) = node_at c.nodes.ensures.same c.in-Some.ensures.lookup.0 c.in-Some.ensures.lookup.1 in
+    walking_turn c.args.w.now c.args.t c.loop-x.invariant h (subst (λ l. Grown c.loop-x.line l c.loop-y.line) (take_all _ _ c.loop-y-test.false ∙ c.entries-y-items.ensures ∙ ap (entries_of c.args.w.now) e) c.loop-y.invariant)
 
 pub returns : goal.returns
-returns c =
-    going_end c.args.w.now c.args.t c.loop-i.at c.loop-i.n c.loop-i.seen c.loop-i.i c.loop-i.invariant c.loop-i-test.false
+returns c = walking_end c.args.w.now c.args.t c.loop-x.invariant (let e = c.nodes.ensures.same in let l = c.in_default.ensures.lookup in grind (arith, nat_tests))

@@ -6,9 +6,9 @@ use Prim.Native.Nat.{ℕ, zero, suc, ◌+◌, ◌*◌, ◌-◌, ◌/◌, ◌%◌
 use native.Mathlib.Omega.{arith}
 use native.Mathlib.Decide.{dec_lt}
 use native.Mathlib.Nat.{pow-zero, pow-suc}
-use lib.Dec.{leb}
-use lib.ListN.{length, length-append}
-use borrow.Author.Tests.{lt-ltb, le-ltb, le-leb, lt-leb}
+use lib.Dec.{ltb}
+use lib.ListN.{take, drop, length, length-append}
+use borrow.Author.Tests.{lt-ltb, le-ltb}
 use Rattle.tag.specs.Tags.{decimal}
 
 -- the last digit, and what stands ahead of it
@@ -67,27 +67,24 @@ decimal_positive k n = go (dec_lt n 10)
     go (yes h) = rw (decimal_few k n h) (omega arith)
     go (no h) = rw (decimal-more k n (omega arith), length-append) (omega arith)
 
--- a digit, where the number has one at the place p
-abbrev pub place : ℕ → ℕ → ℕ → List ℕ
-place n p d = cond (leb p n) ((48 + d % 10) ∷ []) []
+-- four digits, and no zeros ahead of the number
+module _ (k z d₃ d₂ d₁ d₀ : ℕ) (e : z ≡ cond (ltb k 10) 3 (cond (ltb k 100) 2 (cond (ltb k 1000) 1 0)))
+    (e₃ : d₃ ≡ 48 + k / 1000 % 10) (e₂ : d₂ ≡ 48 + k / 100 % 10) (e₁ : d₁ ≡ 48 + k / 10 % 10) (e₀ : d₀ ≡ 48 + k % 10) where
+  pub last_digits : decimal 4 k ≡ take (4 - z) (drop z (d₃ ∷ d₂ ∷ d₁ ∷ d₀ ∷ []))
+  last_digits = go (dec_lt k 10) (dec_lt k 100) (dec_lt k 1000)
+    where
+      two : k / 10 / 10 ≡ k / 100
+      two = omega arith
 
-pub four_digits : (n : ℕ) → decimal 4 n ≡ place n 1000 (n / 1000) ++ place n 100 (n / 100) ++ place n 10 (n / 10) ++ ((48 + n % 10) ∷ [])
-four_digits n = go (dec_lt n 10) (dec_lt n 100) (dec_lt n 1000)
-  where
-    two : n / 10 / 10 ≡ n / 100
-    two = omega arith
+      three : k / 100 / 10 ≡ k / 1000
+      three = omega arith
 
-    three : n / 100 / 10 ≡ n / 1000
-    three = omega arith
-
-    go : Dec (n < 10) → Dec (n < 100) → Dec (n < 1000)
-        → decimal 4 n ≡ place n 1000 (n / 1000) ++ place n 100 (n / 100) ++ place n 10 (n / 10) ++ ((48 + n % 10) ∷ [])
-    go (yes p) q r = rw (decimal_few 3 n p, lt-leb 1000 n (omega arith), lt-leb 100 n (omega arith), lt-leb 10 n p)
-    go (no p) (yes q) r =
-        rw (decimal-more 3 n (omega arith), decimal_few 2 (n / 10) (omega arith), lt-leb 1000 n (omega arith), lt-leb 100 n q, le-leb 10 n (omega arith))
-    go (no p) (no q) (yes r) =
-        rw (decimal-more 3 n (omega arith), decimal-more 2 (n / 10) (omega arith), two, decimal_few 1 (n / 100) (omega arith))
-        (rw (lt-leb 1000 n r, le-leb 100 n (omega arith), le-leb 10 n (omega arith)))
-    go (no p) (no q) (no r) =
-        rw (decimal-more 3 n (omega arith), decimal-more 2 (n / 10) (omega arith), two, decimal-more 1 (n / 100) (omega arith), three, decimal_one (n / 1000))
-        (rw (le-leb 1000 n (omega arith), le-leb 100 n (omega arith), le-leb 10 n (omega arith)))
+      go : Dec (k < 10) → Dec (k < 100) → Dec (k < 1000) → decimal 4 k ≡ take (4 - z) (drop z (d₃ ∷ d₂ ∷ d₁ ∷ d₀ ∷ []))
+      go (yes p) q r = rw (decimal_few 3 k p, e, e₀, lt-ltb k 10 p)
+      go (no p) (yes q) r = rw (decimal-more 3 k (omega arith), decimal_few 2 (k / 10) (omega arith), e, e₁, e₀, le-ltb k 10 (omega arith), lt-ltb k 100 q)
+      go (no p) (no q) (yes r) =
+          rw (decimal-more 3 k (omega arith), decimal-more 2 (k / 10) (omega arith), two, decimal_few 1 (k / 100) (omega arith))
+          (rw (e, e₂, e₁, e₀, le-ltb k 10 (omega arith), le-ltb k 100 (omega arith), lt-ltb k 1000 r))
+      go (no p) (no q) (no r) =
+          rw (decimal-more 3 k (omega arith), decimal-more 2 (k / 10) (omega arith), two, decimal-more 1 (k / 100) (omega arith), three, decimal_one (k / 1000))
+          (rw (e, e₃, e₂, e₁, e₀, le-ltb k 10 (omega arith), le-ltb k 100 (omega arith), le-ltb k 1000 (omega arith)))

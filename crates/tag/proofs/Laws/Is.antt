@@ -1,27 +1,16 @@
 -- `is` decides whether two byte strings are the same. Assumes nothing.
-use mathlib.Core.Path.{◌≡◌, refl, sym, ◌∙◌, ap, ap₂}
+use mathlib.Core.Path.{◌≡◌, refl, sym, ◌∙◌, ap}
 use mathlib.Core.Logic.{◌≢◌}
-use mathlib.Core.Bool.{Bool, true, false, ◌&&◌, true≢false}
-use mathlib.Core.List.{[], ◌∷◌}
-use lib.Dec.{eqb}
-use borrow.Author.Tests.{eq-eqb, eqb-true}
+use mathlib.Core.Bool.{Bool, true, false, true≢false}
+use Rattle.std.specs.Cmp.Lexicographic.{bytes_decides}
+use Rattle.tag.specs.Comparing.{pointwise_is, is_equivalence}
 use Rattle.tag.specs.Tags.{Tag, is}
 
 pub is_refl : (s : Tag) → is s s ≡ true
-unfolding is
-is_refl [] = refl
-is_refl (a ∷ s) = simp (eq-eqb a a refl, is_refl s)
-
-and_both : (p q : Bool) → p && q ≡ true → (p ≡ true) × (q ≡ true)
-and_both true q e = (refl, e)
-and_both false q e = absurd (true≢false (sym e))
+is_refl = is_equivalence.refl
 
 pub is_true : (s t : Tag) → is s t ≡ true → s ≡ t
-unfolding is
-is_true [] [] e = refl
-is_true [] (b ∷ t) e = absurd (true≢false (sym e))
-is_true (a ∷ s) [] e = absurd (true≢false (sym e))
-is_true (a ∷ s) (b ∷ t) e = let h = and_both (eqb a b) (is s t) e in ap₂ ◌∷◌ (eqb-true a b h.0) (is_true s t h.1)
+is_true s t e = (bytes_decides s t).0 (pointwise_is s t ∙ e)
 
 -- a test that is true exactly of the same bytes
 pub is_only : (r : Bool) (s t : Tag) → (r ≡ true → s ≡ t) → (s ≡ t → r ≡ true) → r ≡ is s t

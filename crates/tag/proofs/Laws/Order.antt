@@ -1,13 +1,16 @@
 -- `before` is a strict total order of byte strings. Assumes nothing.
 use mathlib.Core.Path.{◌≡◌, refl, sym, ◌∙◌, ap₂}
 use mathlib.Core.Logic.{◌⊎◌, inl, inr, ⊎_elim}
-use mathlib.Core.Bool.{Bool, true, false, ◌&&◌, ◌||◌, true≢false}
+use mathlib.Core.Bool.{Bool, true, false, cond, ◌&&◌, ◌||◌, true≢false}
 use mathlib.Core.List.{[], ◌∷◌}
 use Prim.Native.Nat.{ℕ, ◌<◌}
 use native.Mathlib.Omega.{arith}
 use native.Mathlib.Decide.{dec_lt}
 use lib.Dec.{ltb, eqb}
 use borrow.Author.Tests.{ltb-true, eqb-true, lt-ltb, le-ltb, eq-eqb, ne_eqb}
+use Rattle.std.specs.Cmp.Lexicographic.{slice_cmp}
+use Rattle.std.proofs.Common.{Less, Equal, Greater}
+use Rattle.std.specs.Ordering.{is_lt, nat_cmp, ordering_then}
 use Rattle.tag.specs.Tags.{Tag, before}
 
 -- by the first bytes: less, or the same and the rest stands ahead
@@ -91,3 +94,17 @@ before_level s t p q =
 -- what does not stand ahead of t is t or behind it
 pub before_not : (s t : Tag) → before s t ≡ false → (s ≡ t) ⊎ (before t s ≡ true)
 before_not s t p = ⊎_elim (λ x. absurd (true≢false (sym x ∙ p))) (λ x. x) (before-total s t)
+
+-- what `<` of slices computes
+pub less_before : (s t : Tag) → is_lt (slice_cmp nat_cmp s t) ≡ before s t
+unfolding before
+less_before [] [] = refl
+less_before [] (b ∷ t) = refl
+less_before (a ∷ s) [] = refl
+less_before (a ∷ s) (b ∷ t) = go (ltb a b) (eqb a b) (less_before s t)
+  where
+    go : (c d : Bool) → is_lt (slice_cmp nat_cmp s t) ≡ before s t
+        → is_lt (ordering_then (cond c Less (cond d Equal Greater)) (slice_cmp nat_cmp s t)) ≡ c || (d && before s t)
+    go true d e = refl
+    go false true e = e
+    go false false e = refl

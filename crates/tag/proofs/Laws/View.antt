@@ -2,12 +2,15 @@
 use mathlib.Core.Path.{◌≡◌, sym, ◌∙◌, ap, ap₂}
 use mathlib.Core.Bool.{true, false}
 use mathlib.Core.List.{List, [], ◌∷◌, ◌++◌}
-use Prim.Native.Nat.{ℕ, suc, ◌+◌, ◌-◌, ◌<◌, ◌≤◌, min}
+use Prim.Native.Nat.{ℕ, ◌+◌, ◌-◌, ◌<◌, ◌≤◌, min}
 use native.Mathlib.Omega.{arith}
 use native.Mathlib.Decide.{dec_le}
 use native.Mathlib.Numerals.{add-one}
 use lib.ListN.{take, drop, length, get_or, set, replicate, length-take, take-append-drop}
-use lib.Seq.{drop-drop, drop-set-lt, get_or-take, take-suc-set, take-suc, take_all}
+use lib.Seq.{drop-drop, get_or-take, take-suc-set, take-suc, take_all}
+use borrow.Rule.Slice.PartMut.{put_mid}
+use Rattle.std.proofs.lemmas.List.{drop-replicate}
+use Rattle.std.proofs.lemmas.Slice.{take-put_mid, drop-put_mid}
 use borrow.Author.Tests.{le-leb, leb-true, le-ltb, ltb-false}
 use Rattle.tag.specs.declared.Tag.{Tag as Label}
 use Rattle.tag.specs.Tags.{Tag, overlong}
@@ -78,13 +81,31 @@ pub byte_stored : (b t : List ℕ) (j : ℕ) → j < length b → j < length t �
 byte_stored b t j h k e =
     rw add-one (take-suc-set b j (get_or t j 0) h ∙ ap (λ (l : List ℕ). l ++ (get_or t j 0 ∷ [])) e ∙ sym (take-suc t j 0 k))
 
--- the zeros behind them
-pub rest_zero : (b : List ℕ) (j x : ℕ) → j < 32 → drop j b ≡ replicate (32 - j) 0 → drop (j + 1) (set b j x) ≡ replicate (32 - (j + 1)) 0
-rest_zero b j x h e =
-    drop-set-lt (j + 1) b j x (omega arith) ∙ sym (drop-drop 1 j b) ∙ ap (drop 1) (e ∙ ap (λ (n : ℕ). replicate n 0) more)
-  where
-    more : 32 - j ≡ suc (32 - (j + 1))
-    more = omega arith
+-- a tag made of another's bytes
+pub copied : (s r : Label) (now : Tag) → length s.bytes ≡ 32 → length r.bytes ≡ 32 → now ≡ bytes_of s → Made (take 32 now) r
+    → Made (bytes_of s) r × (r.len ≡ length (bytes_of s)) × (r.len ≤ 32)
+copied s r now size size₂ e made =
+    let m = made_whole (bytes_of s) r (bytes_of-short s size) (rw e at made) in
+    (m, labelled_len (bytes_of s) r size₂ m.labelled, fits_len r m.labelled.short)
+
+-- more bytes behind those of a tag
+pub joined : (t more now : Tag) (r : Label) → length r.bytes ≡ 32 → now ≡ more → Made t r → r.len + length more ≤ 32
+    → Made (t ++ more) (record { bytes = put_mid r.len (r.len + length more - r.len) r.bytes now; len = r.len + length more })
+unfolding bytes_of tag_fits
+joined t more now r size e m h =
+    let few : length now ≡ length more = ap length e in
+    let n = r.len + length more in
+    record {
+      labelled = record {
+        bytes = take-put_mid r.len (n - r.len) r.bytes now n (omega arith) (omega arith) ∙ ap₂ ◌++◌ m.labelled.bytes e;
+        short = le-leb n 32 h;
+      };
+      padded =
+          drop-put_mid r.len (n - r.len) r.bytes now n (omega arith) (omega arith) (omega arith)
+          ∙ sym (drop-drop (length more) r.len r.bytes)
+          ∙ (ap (drop (length more)) m.padded ∙ drop-replicate (length more) (32 - r.len) 0)
+          ∙ ap (λ (k : ℕ). replicate k 0) (let z : 32 - r.len - length more ≡ 32 - n = omega arith in z);
+    }
 
 pub made : (b t : List ℕ) (n : ℕ) → n ≡ min (length t) 32 → take n b ≡ take n t → drop n b ≡ replicate (32 - n) 0 → Made (take 32 t) (record { bytes = b; len = n })
 unfolding bytes_of tag_fits

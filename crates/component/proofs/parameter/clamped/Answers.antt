@@ -1,12 +1,12 @@
--- `component::parameter::clamped` meets its contract: `Numbers.antt`. Assumes nothing.
-use Rattle.component.proofs.Numbers.{clamped_low, clamped_high, clamped-kept}
+-- `component::parameter::clamped` meets its contract. Assumes nothing.
+use Rattle.std.specs.Float.Ieee.{of_bits, le}
+use Rattle.component.specs.Parameter.{clamped}
 use Rattle.component.proofs.parameter.clamped.Goals as goal
 
-pub returns-then-factor : goal.returns-then-factor
-returns-then-factor c = clamped_low c.args.factor c.if-factor.true
-
-pub returns-then-factor-2 : goal.returns-then-factor-2
-returns-then-factor-2 c = clamped_high c.args.factor c.if-factor.false c.if-factor-2.true
+pub clamp-requires : goal.clamp-requires
+unfolding of_bits le
+clamp-requires c = tt
 
 pub returns : goal.returns
-returns c = clamped-kept c.args.factor c.if-factor.false c.if-factor-2.false
+unfolding clamped of_bits
+returns c = c.clamp.ensures.value

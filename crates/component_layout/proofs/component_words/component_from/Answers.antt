@@ -5,4 +5,4 @@ use Rattle.component_layout.proofs.component_words.component_from.Goals as goal
 pub returns : goal.returns
 unfolding component_from
 returns c =
-    rw (← c.float_of-v.ensures, ← c.float_of-w.ensures, ← c.float_of-x.ensures, ← c.float_of-y.ensures, ← c.float_of-z.ensures) c.component_of.ensures
+    rw (← c.float_of.ensures, ← c.float_of-2.ensures, ← c.float_of-3.ensures, ← c.float_of-4.ensures, ← c.float_of-5.ensures) c.component_of.ensures

@@ -1,17 +1,12 @@
--- `read_text` meets its contract. Assumes nothing.
-use native.Mathlib.Omega.{arith}
-use Rattle.layout.proofs.Laws.{text-past, text-cut}
-use Rattle.layout.proofs.Laws.{text-past, text-cut, text_whole}
+-- `read_text` meets its contract: `Laws.antt`. Assumes nothing.
+use Rattle.std.proofs.Common.{◌≡◌, ◌+◌, ◌-◌, ◌^◌, drop, arith, ap, ◌∙◌}
+use Rattle.std.proofs.lemmas.List.{take_min}
+use Rattle.layout.specs.Words.{text}
+use Rattle.layout.proofs.Laws.{drop_far}
 use Rattle.layout.proofs.words.read_text.Goals as goal
 
-pub returns-then-n-at : goal.returns-then-n-at
-returns-then-n-at c = text-past _ _ (omega arith)
-
-pub returns-then-n-at-le8 : goal.returns-then-n-at-le8
-returns-then-n-at-le8 c = text-past _ _ (omega arith)
-
-pub returns-then-n-start : goal.returns-then-n-start
-returns-then-n-start c = text-cut _ _ c.read_word-len.ensures c.if-n-start.true
-
 pub returns : goal.returns
-returns c = text_whole _ _ c.read_word-len.ensures
+unfolding text
+returns c =
+    let rest : c.rest_from-rest.result.now ≡ drop (c.args.at + 8) c.args.s.now = c.rest_from-rest.ensures ∙ ap (λ n. drop n c.args.s.now) c.saturating_add.ensures ∙ drop_far c.args.s.now (c.args.at + 8) (2 ^ 64 - 1) (omega arith) in
+    rw (c.min.ensures, take_min, c.read_word-len.ensures, rest)

@@ -1,11 +1,8 @@
--- `word_past` meets its contract. Assumes nothing.
-use native.Mathlib.Omega.{arith}
-use mathlib.Core.Path.{sym}
-use Rattle.layout.proofs.Laws.{word_past_end}
+-- `word_past` meets its contract: `Laws.antt`. Assumes nothing.
+use Rattle.std.proofs.Common.{arith, ap, ◌+◌, ◌-◌, ◌^◌, ◌∙◌}
+use Rattle.layout.specs.Words.{word}
+use Rattle.layout.proofs.Laws.{word_far}
 use Rattle.layout.proofs.words.word_past.Goals as goal
 
-pub returns-then-s-at : goal.returns-then-s-at
-returns-then-s-at c = sym (word_past_end _ _ (omega arith))
-
-pub returns-then-s-at-2 : goal.returns-then-s-at-2
-returns-then-s-at-2 c = sym (word_past_end _ _ (omega arith))
+pub returns : goal.returns
+returns c = c.read_word.ensures ∙ ap (word c.args.s.now) c.saturating_add.ensures ∙ word_far c.args.s.now (c.args.at + c.args.offset) (2 ^ 64 - 1) (omega arith)

@@ -1,14 +1,15 @@
--- `write_word` meets its contract. Assumes nothing.
-use mathlib.Core.Path.{◌∙◌}
-use native.Mathlib.Omega.{arith}
-use Rattle.layout.proofs.Put.{word-short, word-put}
+-- `write_word` meets its contract: `Put.antt`. Assumes nothing.
+use Rattle.std.proofs.Common.{◌+◌, ◌-◌, arith, ap, ◌∙◌}
+use borrow.Rule.Slice.PartMut.{put_mid}
+use Rattle.layout.specs.Writing.{bytes8}
+use Rattle.layout.proofs.Put.{word-short, word-put, put_part, le_bytes8, length-bytes8}
 use Rattle.layout.proofs.writing.write_word.Goals as goal
 
-pub returns-then-s-lt8 : goal.returns-then-s-lt8
-returns-then-s-lt8 c = word-short _ _ _ (omega arith)
-
 pub returns-then-at-s : goal.returns-then-at-s
-returns-then-at-s c = c.write_eight.ensures ∙ word-put _ _ _ (omega arith)
+returns-then-at-s c =
+    let s = c.args.s.now in
+    let at = c.args.at in
+    ap (put_mid at (at + 8 - at) s) (c.copy_from_slice.ensures.after ∙ c.to_le_bytes.ensures ∙ le_bytes8 c.args.x) ∙ put_part s at (bytes8 c.args.x) (length-bytes8 c.args.x) ∙ word-put _ _ _ (omega arith)
 
-pub returns-else-at-s : goal.returns-else-at-s
-returns-else-at-s c = word-short _ _ _ (omega arith)
+pub returns-else-s-ge8 : goal.returns-else-s-ge8
+returns-else-s-ge8 c = word-short _ _ _ (omega arith)

@@ -1,6 +1,7 @@
--- `tag::bytes::same_bytes` meets its contract: `Laws/Is.antt`. Assumes nothing.
-use Rattle.tag.proofs.Laws.Is.{is_only}
+-- `tag::bytes::same_bytes` meets its contract. Assumes nothing.
+use mathlib.Core.Path.{◌∙◌}
+use Rattle.tag.specs.Comparing.{pointwise_is}
 use Rattle.tag.proofs.bytes.same_bytes.Goals as goal
 
 pub returns : goal.returns
-returns c = is_only c.same.result _ _ c.same.ensures.0 c.same.ensures.1
+returns c = c.eq.ensures ∙ pointwise_is _ _

@@ -1,8 +1,0 @@
--- `cut_word` meets its contract. Assumes nothing.
-use borrow.Author.Rules.{rules}
-use Rattle.layout.specs.Words.{word}
-use Rattle.layout.proofs.words.cut_word.Goals as goal
-
-pub returns : goal.returns
-unfolding word
-returns c = search rules

@@ -1,2 +1,0 @@
--- `Arms` is what the functions' proofs cite.
-mod Arms

@@ -1,8 +1,0 @@
--- `tag::empty_tag` meets its contract: no byte is stored, so all are 0. Assumes nothing.
-use mathlib.Core.Path.{refl}
-use Rattle.tag.specs.View.{bytes_of, tag_fits}
-use Rattle.tag.proofs.empty_tag.Goals as goal
-
-pub returns : goal.returns
-unfolding bytes_of tag_fits
-returns c = record { labelled = record { bytes = refl; short = refl }; padded = refl }
