@@ -1,2 +1,2 @@
--- `Pairs`: two indices in one loop.
-pub mod Pairs
+-- `Behind`: a row held against those behind it.
+pub mod Behind

@@ -1,2 +1,2 @@
--- `Laws` is what the functions' proofs cite.
-mod Laws
+-- `Laws` is what the function's proof cites, and the crates above.
+pub mod Laws

@@ -5,12 +5,12 @@ pub mod rows;
 
 ghost use Rattle.std.specs.Prelude.{[]};
 ghost use Rattle.tag.specs.View.{bytes_of};
-ghost use Rattle.model.specs.Answer.{number_of};
+ghost use Rattle.model.specs.Answer.{number_of, refusal_of};
 ghost use Rattle.model.specs.Edit.{done as edit-done, made as edit-made};
 ghost use Rattle.edit.specs.Ends.{Refused, Ends};
 
 use model::implicit_model::Model;
-use model::model_error::{Answer, Ending, ModelError};
+use model::model_error::{Answer, ModelError, Refusal};
 use tag::Tag;
 
 // An answer, with the model after the call.
@@ -20,39 +20,38 @@ pub struct Edited {
     pub model: Model,
 }
 
+impl Edited {
+    // A refused edit: the model as it was.
+    pub fn refused(model: Model, refusal: Refusal) -> Edited
+        ensures { Ends (refusal_of refusal) model result }
+    {
+        Edited {
+            answer: Err(refusal),
+            model,
+        }
+    }
+}
+
 // A refusal with a tag and an index: the model as it was.
 pub fn refuse(m: Model, e: ModelError, t: Tag, index: usize) -> Edited
     ensures { Refused m (number_of e) (bytes_of t) index result }
 {
-    Edited {
-        answer: Answer {
-            ending: Ending::Refused(e),
-            tag: t,
-            index,
-        },
-        model: m,
-    }
+    Edited::refused(m, Refusal::at(e, t, index))
 }
 
 // A refusal that carries nothing.
 pub fn refuse_plain(m: Model, e: ModelError) -> Edited
     ensures { Refused m (number_of e) [] 0 result }
 {
-    let t = tag::empty_tag();
-    refuse(m, e, t, 0)
+    Edited::refused(m, Refusal::plain(e))
 }
 
 // The edit is done, and this is the model after it.
 pub fn done(m: Model) -> Edited
     ensures { Ends edit-done m result }
 {
-    let t = tag::empty_tag();
     Edited {
-        answer: Answer {
-            ending: Ending::Done,
-            tag: t,
-            index: 0,
-        },
+        answer: Ok(None),
         model: m,
     }
 }
@@ -62,11 +61,7 @@ pub fn made(m: Model, t: Tag) -> Edited
     ensures { Ends (edit-made (bytes_of t)) m result }
 {
     Edited {
-        answer: Answer {
-            ending: Ending::Made,
-            tag: t,
-            index: 0,
-        },
+        answer: Ok(Some(t)),
         model: m,
     }
 }

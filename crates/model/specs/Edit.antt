@@ -1,13 +1,12 @@
 -- Document 01, "The wires" and "A parameter set": the nine edits, each with its answer and the model after it, in document 01's check order. Definitions only.
-use Rattle.std.specs.Prelude.{Bool, true, false, not, ◌&&◌, ◌||◌, cond, List, [], ◌∷◌, map, ℕ, zero, suc, leb, eqb, length, take, set, replicate, Float}
+use Rattle.std.specs.Prelude.{Bool, true, false, not, ◌&&◌, ◌||◌, cond, List, [], ◌∷◌, map, ℕ, zero, suc, leb, eqb, length, take, set, replicate, Float, Ok, Err}
 use Rattle.std.proofs.Math.Option.{Option, none, some}
 use Rattle.tag.specs.Tags.{Tag, is, overlong, empty, numbered}
 use Rattle.component.specs.Value.{input_count}
 use Rattle.component.specs.Kind.{is_function, is_operation}
-use Rattle.component.specs.Parameter.{Name, set_parameter as parameterSet}
+use Rattle.component.specs.Parameter.{Name, set_parameter as parameterSet, Setting}
 use Rattle.component.specs.declared.parameter.Data.{Data}
-use Rattle.component.specs.declared.model_component.Setting.{Setting}
-use Rattle.component.specs.declared.model_component.Setting.TheVariants.{Changed, DoesNotFit, TooNear}
+use Rattle.component.specs.declared.parameter.ParameterError.TheVariants.{DoesNotFit, TooNear}
 use Rattle.component.specs.declared.model_component.Component.{Component}
 use Rattle.component.specs.declared.model_component.Component.TheVariants.{Constant}
 use Rattle.model.specs.Table.{any, Table, find, held, cut, put, each, move}
@@ -191,9 +190,9 @@ rename m t u =
 -- ---- a parameter set
 
 abbrev pub settle : Model → Tag → Setting → Outcome
-settle m t DoesNotFit = refuse m 4 t 0
-settle m t TooNear = refuse m 5 t 0
-settle m t (Changed c) = record { answer = done; model = record { components = put t c m.components; lists = m.lists; default = m.default } }
+settle m t (Err DoesNotFit) = refuse m 4 t 0
+settle m t (Err TooNear) = refuse m 5 t 0
+settle m t (Ok c) = record { answer = done; model = record { components = put t c m.components; lists = m.lists; default = m.default } }
 
 abbrev pub set_in : Model → Tag → Name → Data → Option Component → Outcome
 set_in m t n d none = refuse m 12 t 0

@@ -1,7 +1,7 @@
 -- Document 01, "The order and the number at a point": reach, compile, the order, the form's number, and evaluation. Definitions only.
 use Rattle.std.specs.Prelude.{◌≡◌, not, ℕ, T, get_or, Float}
 use mathlib.Core.List.{List, [], ◌∷◌, ◌++◌, Memᴰ}
-use Rattle.std.proofs.Math.Option.{Option, none, some}
+use Rattle.std.proofs.Math.Option.{none, some}
 use Rattle.std.specs.Float.{nan, binary64}
 use Rattle.std.specs.Float.Ieee.{to_bits}
 use Rattle.tag.specs.Tags.{Tag, before, overlong, empty}

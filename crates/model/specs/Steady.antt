@@ -1,5 +1,5 @@
 -- Document 01, "The steady number" (demand 3). Definitions only.
-use Rattle.std.specs.Prelude.{◌≡◌, ◌⊎◌, ◌≢◌, ◌↔◌, not, cond, List, [], ◌∷◌, ℕ, T, Float}
+use Rattle.std.specs.Prelude.{◌≡◌, ◌⊎◌, ◌≢◌, ◌↔◌, cond, List, [], ◌∷◌, ℕ, T, Float}
 use Rattle.std.proofs.Math.Option.{none}
 use Rattle.std.specs.Float.{binary64}
 use Rattle.std.specs.Float.Ieee.{to_bits}

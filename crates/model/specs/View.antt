@@ -1,18 +1,23 @@
 -- What the record of a model holds: its live rows as tables by tag; and what 7 asks of the record alone. Definitions only.
-use Rattle.std.specs.Prelude.{Bool, true, ◌&&◌, cond, List, [], ◌∷◌, map, ℕ, leb, take}
+use Rattle.std.specs.Prelude.{Bool, true, ◌&&◌, List, [], ◌∷◌, map, ℕ, leb, take, Option, Some, None}
 use Rattle.std.proofs.Math.Option.{none, some}
 use Rattle.tag.specs.Tags.{Tag}
+use Rattle.tag.specs.declared.Tag.{Tag as Label}
 use Rattle.tag.specs.View.{bytes_of, tag_fits}
 use Rattle.component.specs.declared.model_component.Component.{Component}
-use Rattle.model.specs.declared.implicit_model.Place.{Place as PlaceRecord}
 use Rattle.model.specs.declared.implicit_model.ComponentEntry.{ComponentEntry}
 use Rattle.model.specs.declared.implicit_model.InputList.{InputList}
 use Rattle.model.specs.declared.implicit_model.Model.{Model as Record}
 use Rattle.model.specs.Table.{all, Table}
 use Rattle.model.specs.Model.{Place, Model, valid}
 
+-- a place of the record: a tag, or none
+abbrev pub PlaceRecord : Type 0
+PlaceRecord = Option Label
+
 unfoldable pub place_of : PlaceRecord → Place
-place_of p = cond p.assigned (some (bytes_of p.tag)) none
+place_of None = none
+place_of (Some t) = some (bytes_of t)
 
 -- the first n rows of a table, each seen through g
 unfoldable pub rows : {A B : Type 0} → (A → B) → ℕ → List A → List B
@@ -40,7 +45,8 @@ abbrev pub every : List Bool → Bool
 every bs = all (λ b. b) bs
 
 unfoldable pub place_fits : PlaceRecord → Bool
-place_fits p = cond p.assigned (tag_fits p.tag) true
+place_fits None = true
+place_fits (Some t) = tag_fits t
 
 abbrev pub entry_fits : ComponentEntry → Bool
 entry_fits e = tag_fits e.tag

@@ -1,13 +1,13 @@
 // The record of a model: fixed tables whose first rows, by the counts, are live.
+ghost use Rattle.std.specs.Prelude.{◌≡◌, min, length, take};
+ghost use Rattle.tag.specs.Tags.{Tag as Bytes};
+ghost use Rattle.tag.specs.View.{bytes_of};
+
 use component::model_component::Component;
 use tag::Tag;
 
 // A place names a tag, or is unassigned.
-#[derive(Clone, Copy)]
-pub struct Place {
-    pub assigned: bool,
-    pub tag: Tag,
-}
+pub type Place = Option<Tag>;
 
 #[derive(Clone, Copy)]
 pub struct ComponentEntry {
@@ -15,6 +15,7 @@ pub struct ComponentEntry {
     pub component: Component,
 }
 
+// Kept: memory is fixed, so the places stand in an array with their count beside it.
 #[derive(Clone, Copy)]
 pub struct InputList {
     pub tag: Tag,
@@ -22,6 +23,7 @@ pub struct InputList {
     pub places: [Place; 3],
 }
 
+// Kept: memory is fixed, so each table is an array with its count beside it.
 #[derive(Clone, Copy)]
 pub struct Model {
     pub components: [ComponentEntry; 64],
@@ -29,4 +31,64 @@ pub struct Model {
     pub lists: [InputList; 128],
     pub list_count: usize,
     pub default: Place,
+}
+
+// A row of a table, which is found by its tag.
+pub trait Tagged {
+    ghost tag_bytes: { Self → Bytes };
+
+    fn tag(&self) -> &Tag
+        ensures { bytes_of result.now ≡ tag_bytes self.now };
+}
+
+impl Tagged for ComponentEntry {
+    ghost tag_bytes = { λ e. bytes_of e.tag };
+
+    fn tag(&self) -> &Tag {
+        &self.tag
+    }
+}
+
+impl Tagged for InputList {
+    ghost tag_bytes = { λ l. bytes_of l.tag };
+
+    fn tag(&self) -> &Tag {
+        &self.tag
+    }
+}
+
+// The live rows of a table, the first by a count. A count past the table counts as its size.
+fn live<R>(table: &[R], count: usize) -> &[R]
+    ensures rows { result.now ≡ take count table.now }
+    ensures bound { length result.now ≡ min count (length table.now) }
+{
+    table.get(..count).unwrap_or(table)
+}
+
+impl InputList {
+    // The live places.
+    pub fn live_places(&self) -> &[Place]
+        ensures rows { result.now ≡ take self.now.count self.now.places }
+        ensures bound { length result.now ≡ min self.now.count 3 }
+    {
+        live(&self.places, self.count)
+    }
+}
+
+impl Model {
+    // The live rows of the component table.
+    pub fn live_components(&self) -> &[ComponentEntry]
+        ensures rows { result.now ≡ take self.now.component_count self.now.components }
+        ensures bound { length result.now ≡ min self.now.component_count 64 }
+    {
+        live(&self.components, self.component_count)
+    }
+
+    // The live rows of the table of input lists.
+    pub fn live_lists(&self) -> &[InputList]
+        ensures rows { result.now ≡ take self.now.list_count self.now.lists }
+        ensures bound { length result.now ≡ min self.now.list_count 128 }
+    {
+        live(&self.lists, self.list_count)
+    }
 }

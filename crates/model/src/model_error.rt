@@ -1,8 +1,14 @@
-// Why a call is refused, and how a call ended.
-use tag::Tag;
+// Why a call is refused, and how an edit ends.
+ghost use Rattle.std.specs.Prelude.{◌≡◌, []};
+ghost use Rattle.tag.specs.View.{bytes_of};
+ghost use Rattle.model.specs.Answer.{number_of, unsettled, refusal_of};
+ghost use Rattle.model.specs.Edit.{refused};
+
+use component::parameter::ParameterError;
+use tag::{Tag, TagTooLong};
 
 // The refusals. Document 01's number of each is `number_of` in specs/Answer.antt.
-#[derive(Clone, Copy)]
+#[derive(Clone, Copy, Debug, PartialEq, Eq)]
 pub enum ModelError {
     TagTooLong,
     IncorrectInputCount,
@@ -19,18 +25,78 @@ pub enum ModelError {
     NumberedTagTooLong,
 }
 
-// How an edit ended: done, done with a tag made, or refused.
-#[derive(Clone, Copy)]
-pub enum Ending {
-    Done,
-    Made,
-    Refused(ModelError),
+impl From<ModelError> for u32 {
+    ghost from_gives = { λ e n. n ≡ number_of e };
+
+    fn from(e: ModelError) -> u32 {
+        match e {
+            ModelError::TagTooLong => 1,
+            ModelError::IncorrectInputCount => 2,
+            ModelError::InputIndexOutOfRange => 3,
+            ModelError::ParameterDoesNotFit => 4,
+            ModelError::ParameterTooNear => 5,
+            ModelError::InvalidModel => 7,
+            ModelError::DuplicateTag => 11,
+            ModelError::MissingTag => 12,
+            ModelError::MissingInput => 13,
+            ModelError::CyclicDependency => 14,
+            ModelError::ComponentsFull => 15,
+            ModelError::ListsFull => 16,
+            ModelError::NumberedTagTooLong => 17,
+        }
+    }
 }
 
-// The ending, and the tag and the index that go with it: the tag made, or what a refusal carries.
+impl From<ParameterError> for ModelError {
+    ghost from_gives = { λ p e. e ≡ unsettled p };
+
+    fn from(e: ParameterError) -> ModelError {
+        match e {
+            ParameterError::DoesNotFit => ModelError::ParameterDoesNotFit,
+            ParameterError::TooNear => ModelError::ParameterTooNear,
+        }
+    }
+}
+
+// A refusal, with the tag and the index that it carries.
 #[derive(Clone, Copy)]
-pub struct Answer {
-    pub ending: Ending,
+pub struct Refusal {
+    pub error: ModelError,
     pub tag: Tag,
     pub index: usize,
 }
+
+impl Refusal {
+    // A refusal that carries nothing.
+    pub fn plain(error: ModelError) -> Refusal
+        ensures { refusal_of result ≡ refused (number_of error) [] 0 }
+    {
+        Refusal::of(error, Tag::default())
+    }
+
+    // One that carries a tag.
+    pub fn of(error: ModelError, tag: Tag) -> Refusal
+        ensures { refusal_of result ≡ refused (number_of error) (bytes_of tag) 0 }
+    {
+        Refusal::at(error, tag, 0)
+    }
+
+    // One that carries a tag, and the index of an input.
+    pub fn at(error: ModelError, tag: Tag, index: usize) -> Refusal
+        ensures { refusal_of result ≡ refused (number_of error) (bytes_of tag) index }
+    {
+        Refusal { error, tag, index }
+    }
+}
+
+// Bytes that are too many for a tag are refused, and no tag is carried.
+impl From<TagTooLong> for Refusal {
+    ghost from_gives = { λ _ r. refusal_of r ≡ refused 1 [] 0 };
+
+    fn from(_long: TagTooLong) -> Refusal {
+        Refusal::plain(ModelError::TagTooLong)
+    }
+}
+
+// How an edit ends: done, done with a tag made, or refused.
+pub type Answer = Result<Option<Tag>, Refusal>;

@@ -9,7 +9,7 @@ ghost use Rattle.newest.specs.Carried.{after_rename};
 ghost use Rattle.newest.specs.Place.{tag_at};
 
 use layout::words::read_text;
-use model::model_error::{Answer, Ending};
+use model::model_error::Answer;
 use tag::bytes::same_bytes;
 
 // Whether the tag at a place is these bytes.
@@ -43,10 +43,8 @@ pub fn place_after(
 ) -> usize
     ensures { tag_at target.now s.now result ≡ after_rename (answer_of answer) old.now (tag_at target.now s.now new) (tag_at target.now s.now place) }
 {
-    let ending = answer.ending;
-    match ending {
-        Ending::Done => place,
-        Ending::Made => renamed_place(target, s, place, old, new),
-        Ending::Refused(_) => place,
+    match answer {
+        Ok(Some(_)) => renamed_place(target, s, place, old, new),
+        Ok(None) | Err(_) => place,
     }
 }

@@ -1,21 +1,26 @@
 -- A tag in 32 bytes, and a report as runs of bytes one behind the other. Assumes nothing.
 use Prim.Native.Nat.{ℕ, ◌+◌, ◌-◌, ◌≤◌, ◌<◌}
-use mathlib.Core.Path.{◌≡◌, sym, ap, ◌∙◌}
+use mathlib.Core.Path.{◌≡◌, refl, sym, ap, ◌∙◌}
 use mathlib.Core.Bool.{Bool, cond}
 use mathlib.Core.List.{List, ◌++◌}
 use native.Mathlib.Omega.{arith}
-use lib.ListN.{length, get_or, take, drop, replicate, length-append, length-replicate, get_or-replicate, get_or-append}
-use lib.Seq.{length-take-le, take-length, get_or-take, get_or-append-add, paste}
+use lib.ListN.{length, take, replicate, length-append, length-replicate}
+use lib.Seq.{length-take-le, drop-drop}
+use borrow.Rule.Slice.PartMut.{put_mid}
+use Rattle.std.proofs.lemmas.List.{take-replicate}
+use Rattle.std.proofs.Math.Seq.{take-append-add}
 use borrow.Author.Tests.{le-leb, lt-leb}
-use Rattle.tag.specs.declared.Tag.{Tag as Label}
 use Rattle.tag.specs.Tags.{Tag}
-use Rattle.tag.specs.View.{bytes_of}
-use Rattle.tag.proofs.Laws.View.{bytes_of_at}
 use Rattle.layout.specs.Writing.{bytes8, put, put_word}
-use Rattle.layout.proofs.Put.{length-bytes8, put_is, put-kept, twice, word-put}
+use Rattle.layout.proofs.Put.{length-bytes8, put-kept, twice, word-put}
 use Rattle.report.specs.Report.{Report, padded, bytes_of_report, reported}
 
 -- ---- a tag in 32 bytes
+
+-- a part of a slice overwritten is a run put there
+mid_is : (s vs : List ℕ) (i k : ℕ) → length vs ≡ k → put_mid i k s vs ≡ put s i vs
+unfolding put
+mid_is s vs i k e = rw (e, drop-drop k i s)
 
 module _ (t : Tag) where
   pub length-padded : length (padded t) ≡ 32
@@ -23,30 +28,21 @@ module _ (t : Tag) where
   length-padded =
       length-take-le 32 (t ++ replicate 32 0) (omega (arith, length-append t (replicate 32 0), length-replicate {A = ℕ} 32 0))
 
-  module _ (i : ℕ) (h : i < 32) where
-    padded-within : i < length t → get_or (padded t) i 0 ≡ get_or t i 0
-    unfolding padded
-    padded-within l = get_or-take 32 (t ++ replicate 32 0) i 0 h ∙ get_or-append t (replicate 32 0) 0 i l
+  -- its bytes, and 0 behind them
+  padded-is : length t ≤ 32 → t ++ replicate (32 - length t) 0 ≡ padded t
+  unfolding padded
+  padded-is h =
+      let whole : length t + (32 - length t) ≡ 32 = omega arith in
+      ap (λ (l : List ℕ). t ++ l) (sym (take-replicate (32 - length t) 32 0 (omega arith)))
+      ∙ sym (take-append-add t (replicate 32 0) (32 - length t))
+      ∙ ap (λ (n : ℕ). take n (t ++ replicate 32 0)) whole
 
-    pub padded-past : length t ≤ i → 0 ≡ get_or (padded t) i 0
-    unfolding padded
-    padded-past l =
-        sym
-        (get_or-take 32 (t ++ replicate 32 0) i 0 h
-        ∙ ap (λ (n : ℕ). get_or (t ++ replicate 32 0) n 0) (let z : i ≡ length t + (i - length t) = omega arith in z)
-        ∙ get_or-append-add t (replicate 32 0) (i - length t) 0
-        ∙ get_or-replicate 32 (i - length t) 0 0 (omega arith))
-
--- a byte of a record, within its length
-pub byte_within : (l : Label) → length l.bytes ≡ 32 → (i : ℕ) → i < 32 → i < length (bytes_of l) → get_or l.bytes i 0 ≡ get_or (padded (bytes_of l)) i 0
-byte_within l e i h k = sym (padded-within (bytes_of l) i h k ∙ bytes_of_at l e i k)
-
--- all of it copied is a run
-pub pasted : (s : List ℕ) (i n : ℕ) (vs : List ℕ) → length vs ≡ n → i + n ≤ length s → paste s i vs n ≡ put s i vs
-pasted s i n vs e h =
-    ap (λ (k : ℕ). paste s i vs k) (sym e)
-    ∙ ap (λ (l : List ℕ). take i s ++ l ++ drop (i + length vs) s) (take-length vs)
-    ∙ sym (put_is s i vs (omega arith))
+  -- two parts of a slice overwritten, with its bytes and with 0
+  pub padded-put : (s : List ℕ) {u v : List ℕ} {k l : ℕ} → length t ≤ 32 → 64 ≤ length s → k ≡ length t → l ≡ 32 - length t → u ≡ t → v ≡ replicate l 0
+      → put_mid (24 + length t) l (put_mid 24 k s u) v ≡ put s 24 (padded t)
+  padded-put s {u} {v} {k} {l} h room e f p q =
+      rw (p, q, e, f, mid_is s t 24 (length t) refl, mid_is (put s 24 t) (replicate (32 - length t) 0) (24 + length t) (32 - length t) (length-replicate (32 - length t) 0))
+      (twice s 24 (length t) t (replicate (32 - length t) 0) refl (omega arith) ∙ ap (put s 24) (padded-is h))
 
 -- ---- the report
 

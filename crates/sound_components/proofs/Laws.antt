@@ -1,3 +1,2 @@
--- `Entries`: a component as 7 judges it. `Looking`: two indices in one loop.
+-- `Entries`: a component as 7 judges it.
 pub mod Entries
-pub mod Looking

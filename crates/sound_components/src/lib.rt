@@ -5,45 +5,29 @@ ghost use Rattle.std.specs.Prelude.{◌≡◌};
 ghost use Rattle.model.specs.View.{rows, every, lists_of};
 ghost use Rattle.sound_components.specs.Sound.{entry_sound};
 
-use held::find::{components_held, lists_held, places_held};
-use model::implicit_model::Model;
+use held::reading::get_inputs;
+use model::implicit_model::{ComponentEntry, Model};
 
-// Whether every component's tag is within its size and every operation has a list of its count, which j looks for anew at each row i.
-pub fn components_sound(m: Model) -> bool
-    ensures { result ≡ every (rows (entry_sound (lists_of m)) m.component_count m.components) }
+// Whether a component's tag is within its size, and an operation has a list of its count.
+fn entry_sound(m: &Model, e: &ComponentEntry) -> bool
+    ensures { result ≡ entry_sound (lists_of m.now) e.now }
 {
-    let n = components_held(m);
-    let k = lists_held(m);
-    let mut i: usize = 0;
-    let mut j: usize = 0;
-    while i < n {
-        let e = m.components[i];
-        let t = e.tag;
-        if 32 < t.len {
-            return false;
-        }
-        let c = e.component;
-        let takes = component::model_component::input_count(c);
-        if takes == 0 {
-            i += 1;
-            j = 0;
-        } else {
-            if k <= j {
-                return false;
-            }
-            let l = m.lists[j];
-            let s = l.tag;
-            if tag::same_tag(s, t) {
-                let places = places_held(l);
-                if places != takes {
-                    return false;
-                }
-                i += 1;
-                j = 0;
-            } else {
-                j += 1;
-            }
-        }
+    if 32 < e.tag.len {
+        return false;
     }
-    true
+    let takes = e.component.input_count();
+    if takes == 0 {
+        return true;
+    }
+    match get_inputs(m, e.tag) {
+        Some(list) => list.live_places().len() == takes,
+        None => false,
+    }
+}
+
+// Whether every component is sound.
+pub fn components_sound(m: &Model) -> bool
+    ensures { result ≡ every (rows (entry_sound (lists_of m.now)) m.now.component_count m.now.components) }
+{
+    m.live_components().iter().all(|e| entry_sound(m, e))
 }

@@ -1,69 +1,30 @@
 // Input lists judged by refusal 7: their count of places, and tags within their size.
 #![tactic(auto)]
 
-ghost use Rattle.std.specs.Prelude.{◌≡◌};
-ghost use Rattle.model.specs.View.{rows, every, place_fits};
+ghost use Rattle.std.specs.Prelude.{◌≡◌, map};
+ghost use Rattle.model.specs.View.{every, place_fits};
 ghost use Rattle.sound_lists.specs.Sound.{list_sound};
 
-use held::find::places_held;
 use model::implicit_model::{InputList, Place};
 
 // Whether a place is unassigned or holds a tag within its size.
-fn place_fits(p: Place) -> bool
-    ensures { result ≡ place_fits p }
+pub fn place_fits(p: &Place) -> bool
+    ensures { result ≡ place_fits p.now }
 {
-    if p.assigned {
-        return p.tag.len <= 32;
-    }
-    true
-}
-
-// Whether the tags of a list's places are within their size.
-fn places_fit(l: InputList) -> bool
-    ensures { result ≡ every (rows place_fits l.count l.places) }
-{
-    let n = places_held(l);
-    let mut i: usize = 0;
-    while i < n {
-        let p = l.places[i];
-        if place_fits(p) {
-            i += 1;
-        } else {
-            return false;
-        }
-    }
-    true
+    p.is_none_or(|t| t.len <= 32)
 }
 
 // Whether a list has 1 to 3 places and its tags are within their size.
-fn list_sound(l: InputList) -> bool
-    ensures { result ≡ list_sound l }
+fn list_sound(l: &InputList) -> bool
+    ensures { result ≡ list_sound l.now }
 {
-    if 32 < l.tag.len {
-        return false;
-    }
-    if l.count < 1 {
-        return false;
-    }
-    if 3 < l.count {
-        return false;
-    }
-    places_fit(l)
+    let places = l.live_places();
+    l.tag.len <= 32 && 1 <= l.count && l.count <= 3 && places.iter().all(place_fits)
 }
 
 // Whether every input list is sound.
-pub fn lists_sound(table: [InputList; 128], count: usize) -> bool
-    ensures { result ≡ every (rows list_sound count table) }
+pub fn lists_sound(lists: &[InputList]) -> bool
+    ensures { result ≡ every (map list_sound lists.now) }
 {
-    let n = tag::at_most(count, 128);
-    let mut i: usize = 0;
-    while i < n {
-        let l = table[i];
-        if list_sound(l) {
-            i += 1;
-        } else {
-            return false;
-        }
-    }
-    true
+    lists.iter().all(list_sound)
 }

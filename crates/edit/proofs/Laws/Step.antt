@@ -6,11 +6,16 @@ use mathlib.Core.List.{[]}
 use Prim.Native.Nat.{ℕ}
 use native.Mathlib.Omega.{arith}
 use lib.Dec.{T}
+use Rattle.std.specs.Prelude.{Option, Some, None, Result, Ok, Err, IsErrAnd}
+use Rattle.std.specs.Option.{ok_or}
+use Rattle.tag.specs.declared.Tag.{Tag as Label}
 use Rattle.tag.specs.Tags.{Tag, empty}
+use Rattle.tag.specs.View.{bytes_of}
 use Rattle.model.specs.declared.implicit_model.Model.{Model as Record}
 use Rattle.model.specs.Model.{Model, Same, valid}
 use Rattle.model.specs.Edit.{Edit, done, made, refused, Outcome, refuse, check, edit, apply}
-use Rattle.model.specs.Answer.{answer_of}
+use Rattle.model.specs.declared.model_error.Refusal.{Refusal}
+use Rattle.model.specs.Answer.{refusal_of, answer_of}
 use Rattle.model.specs.View.{view, passes}
 use Rattle.model.proofs.Laws.Bool.{T→true}
 use Rattle.held.proofs.Laws.Standing.{Standing, passes-valid, stands_passes}
@@ -25,6 +30,35 @@ pub record Step (o : Outcome) (m : Record) (r : Edited) : Type 0 where
   pub model : Same o.model (view r.model)
   pub stands : (r.model ≡ m) ⊎ Standing r.model
   pub kept : {n : ℕ} {t : Tag} {i : ℕ} → answer_of r.answer ≡ refused n t i → r.model ≡ m
+
+-- ---- the code's answers: a refusal, also one handed on, and the record as it was
+
+pub stays : {m : Record} {n i : ℕ} {t : Tag} {e : Refusal} → refusal_of e ≡ refused n t i → Refused m n t i (record { answer = Err e; model = m })
+stays h = record { model = refl; answer = h }
+
+pub handed_on : {m : Record} {n i : ℕ} {t : Tag} (e : Refusal) {a : Result (Option Label) Refusal} → IsErrAnd a (λ x. x ≡ e) → refusal_of e ≡ refused n t i
+    → Refused m n t i (record { answer = a; model = m })
+handed_on e {a = Ok x} p h = absurd p
+handed_on e {a = Err x} p h = stays (ap refusal_of p ∙ h)
+
+-- and one that another type's error becomes
+pub becomes : {m : Record} {n i : ℕ} {t : Tag} {a : Result (Option Label) Refusal} → IsErrAnd a (λ x. refusal_of x ≡ refused n t i) → Refused m n t i (record { answer = a; model = m })
+becomes {a = Ok x} p = absurd p
+becomes {a = Err x} p = stays p
+
+-- what `ok_or` makes of a search that found nothing
+pub none_refused : {A : Type 0} (o : Option A) (e d : Refusal) → Err e ≡ ok_or o d → e ≡ d
+none_refused None e d h = grind arith
+none_refused (Some x) e d h = absurd (grind arith)
+
+-- done, and a tag made
+pub is_done : {n : Record} → Ends done n (record { answer = Ok None; model = n })
+is_done = record { model = refl; answer = refl }
+
+pub is_made : {n : Record} {t : Label} → Ends (made (bytes_of t)) n (record { answer = Ok (Some t); model = n })
+is_made = record { model = refl; answer = refl }
+
+-- ---- a step
 
 same_refl : (m : Model) → Same m m
 same_refl m = record { components = λ t. refl; lists = λ t. refl; default = refl }

@@ -12,8 +12,7 @@ use Rattle.tag.specs.Tags.{Tag, overlong}
 use Rattle.tag.specs.View.{bytes_of, Labelled, Made}
 use Rattle.tag.proofs.Laws.View.{length-short, made_whole}
 use Rattle.model.specs.declared.implicit_model.Model.{Model as Record}
-use Rattle.held.specs.declared.find.Found.{Found}
-use Rattle.held.specs.declared.find.Found.TheVariants.{At, Nothing}
+use Rattle.std.specs.Prelude.{Option, Some, None}
 use Rattle.model.specs.Table.{Table, find, held}
 use Rattle.model.specs.Edit.{full}
 use Rattle.model.specs.View.{rows, component_of, components_of, view}
@@ -43,22 +42,22 @@ carrying {m} {n} {t} {u} {i} {r} l h = subst (λ (x : Tag). Refused m n x i r) l
 
 -- ---- a search
 
-module _ {A : Type 0} {r : Table A} {cap : ℕ} {t : Tag} {f : Found} (p : Sought r cap t f) where
-  pub taken : {i : ℕ} → f ≡ At i → held t r ≡ true
+module _ {A : Type 0} {r : Table A} {cap : ℕ} {t : Tag} {f : Option ℕ} (p : Sought r cap t f) where
+  pub taken : {i : ℕ} → f ≡ Some i → held t r ≡ true
   taken {i} e = position-held t 0 i r (sym p.at ∙ e)
 
-  pub free : f ≡ Nothing → held t r ≡ false
+  pub free : f ≡ None → held t r ≡ false
   free e = position-free t 0 r (sym p.at ∙ e)
 
-  pub missing : f ≡ Nothing → find t r ≡ none
+  pub missing : f ≡ None → find t r ≡ none
   missing e = held-false t r (free e)
 
 -- a search by the label is one by the tag
-pub sought_by : {A : Type 0} {r : Table A} {cap : ℕ} {t : Tag} {u : Label} {f : Found} → Labelled t u → Sought r cap (bytes_of u) f → Sought r cap t f
+pub sought_by : {A : Type 0} {r : Table A} {cap : ℕ} {t : Tag} {u : Label} {f : Option ℕ} → Labelled t u → Sought r cap (bytes_of u) f → Sought r cap t f
 sought_by {r = r} {cap = cap} {f = f} l p = subst (λ (x : Tag). Sought r cap x f) l.bytes p
 
 -- the row that a search found
-pub found_row : {A B : Type 0} (g : A → Tag × B) (table : List A) (n : ℕ) {cap : ℕ} {t : Tag} {f : Found} {i : ℕ} (d : A) → Sought (rows g n table) cap t f → f ≡ At i → RowAt g table n i t d
+pub found_row : {A B : Type 0} (g : A → Tag × B) (table : List A) (n : ℕ) {cap : ℕ} {t : Tag} {f : Option ℕ} {i : ℕ} (d : A) → Sought (rows g n table) cap t f → f ≡ Some i → RowAt g table n i t d
 found_row g table n {i = i} d p e = row_at g table n i d (sym p.at ∙ e)
 
 -- ---- the room

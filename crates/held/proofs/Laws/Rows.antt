@@ -1,8 +1,8 @@
 -- Live rows: one row passed, stored, appended, taken off. Assumes nothing.
 use mathlib.Core.Path.{◌≡◌, refl, sym, ◌∙◌, ap}
-use mathlib.Core.Bool.{Bool, true, false}
+use mathlib.Core.Bool.{Bool, true, false, ◌&&◌}
 use mathlib.Core.List.{List, [], ◌∷◌, ◌++◌, map}
-use Prim.Native.Nat.{ℕ, zero, suc, ◌+◌, ◌-◌, ◌<◌, ◌≤◌, min}
+use Prim.Native.Nat.{ℕ, zero, suc, ◌+◌, ◌<◌, ◌≤◌, min}
 use native.Mathlib.Numerals.{add-one}
 use native.Mathlib.Omega.{arith}
 use lib.ListN.{take, drop, length, get_or, set, length-take, length-map, get_or-map, drop_of_length-le}
@@ -10,10 +10,11 @@ use lib.Seq.{drop-cons, get_or-take, take-set-lt, take-suc-set, take-take}
 use lib.Ieee.{nan}
 use Rattle.tag.specs.declared.Tag.{Tag as Label}
 use Rattle.component.specs.declared.model_component.Component.TheVariants.{Constant}
-use Rattle.model.specs.declared.implicit_model.Place.{Place as PlaceRecord}
+use Rattle.std.specs.Prelude.{None}
+use Rattle.std.specs.List.{list_all}
 use Rattle.model.specs.declared.implicit_model.ComponentEntry.{ComponentEntry}
 use Rattle.model.specs.declared.implicit_model.InputList.{InputList}
-use Rattle.model.specs.View.{rows, every}
+use Rattle.model.specs.View.{PlaceRecord, rows, every}
 use Rattle.held.specs.Search.{Live}
 
 -- what the code's tables read as past their ends, where nothing reads them
@@ -21,7 +22,7 @@ abbrev pub no_tag : Label
 no_tag = record { bytes = []; len = 0 }
 
 abbrev pub no_place : PlaceRecord
-no_place = record { assigned = false; tag = no_tag }
+no_place = None
 
 abbrev pub no_entry : ComponentEntry
 no_entry = record { tag = no_tag; component = Constant nan }
@@ -67,8 +68,10 @@ module _ {A B : Type 0} (g : A → B) (table : List A) where
   unfolding rows
   rows_less n k h = ap (map g) (sym (take-take k n table h)) ∙ map-take g k (take n table)
 
-  pub rows-live : (count cap n : ℕ) → length table ≡ cap → n ≡ min count cap → Live (rows g count table) count cap n
-  rows-live count cap n e h = record { live = h ∙ sym (rows-length count ∙ ap (min count) e); bound = h }
+  -- a slice of the live rows
+  pub rows-live : {xs : List A} (count cap : ℕ) → xs ≡ take count table → length xs ≡ min count cap → Live (rows g count table) count cap (length xs)
+  unfolding rows
+  rows-live count cap e b = record { live = ap length e ∙ sym (length-map (take count table) g); bound = b }
 
 -- one test passed
 module _ (xs : List Bool) (i : ℕ) {b : Bool} (next : drop i xs ≡ b ∷ drop (i + 1) xs) where
@@ -80,3 +83,12 @@ module _ (xs : List Bool) (i : ℕ) {b : Bool} (next : drop i xs ≡ b ∷ drop 
 
 pub every_end : (xs : List Bool) (i : ℕ) → length xs ≤ i → every (drop i xs) ≡ true
 every_end xs i h = rw (drop_of_length-le xs h)
+
+-- what `all` answers of a slice, and of the live rows
+pub every_map : {A : Type 0} (p : A → Bool) (xs : List A) → list_all p xs ≡ every (map p xs)
+every_map p [] = refl
+every_map p (x ∷ xs) = ap (λ b. p x && b) (every_map p xs)
+
+pub every_rows : {A : Type 0} (p : A → Bool) (table : List A) (n : ℕ) {xs : List A} → xs ≡ take n table → list_all p xs ≡ every (rows p n table)
+unfolding rows
+every_rows p table n {xs} e = every_map p xs ∙ ap (λ ys. every (map p ys)) e

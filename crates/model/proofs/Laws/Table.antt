@@ -2,8 +2,8 @@
 use mathlib.Core.Path.{◌≡◌, refl, sym, ◌∙◌, ap}
 use mathlib.Core.Logic.{◌≢◌}
 use mathlib.Core.Bool.{Bool, true, false, ◌||◌, cond}
-use mathlib.Core.List.{List, [], ◌∷◌}
-use mathlib.Core.Option.{Option, none, some, map}
+use mathlib.Core.List.{[], ◌∷◌}
+use mathlib.Core.Option.{none, some, map}
 use Rattle.tag.specs.Tags.{Tag, is}
 use Rattle.tag.proofs.Laws.Is.{is_refl, is_true, is_false}
 use Rattle.model.specs.Table.{Table, find, held, cut, put, each}

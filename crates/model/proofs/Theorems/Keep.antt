@@ -1,4 +1,5 @@
 -- Every edit keeps 7: on a model that 7 lets pass it leaves one that 7 lets pass, whatever it answers. Assumes nothing.
+use Rattle.std.specs.Prelude.{Ok, Err}
 use mathlib.Core.Path.{◌≡◌, refl, sym, ◌∙◌, ap, subst}
 use mathlib.Core.Logic.{◌⊎◌, inl, inr, ◌≢◌}
 use mathlib.Core.Bool.{Bool, true, false, not, ◌&&◌, cond}
@@ -13,10 +14,9 @@ use Rattle.tag.specs.Tags.{Tag, is, overlong}
 use Rattle.tag.proofs.Laws.Is.{is_refl, same?}
 use Rattle.component.specs.Value.{input_count}
 use Rattle.component.specs.Kind.{is_function, is_operation}
-use Rattle.component.specs.Parameter.{Name, set_parameter as parameterSet}
+use Rattle.component.specs.Parameter.{Name, set_parameter as parameterSet, Setting}
 use Rattle.component.specs.declared.parameter.Data.{Data}
-use Rattle.component.specs.declared.model_component.Setting.{Setting}
-use Rattle.component.specs.declared.model_component.Setting.TheVariants.{Changed, DoesNotFit, TooNear}
+use Rattle.component.specs.declared.parameter.ParameterError.TheVariants.{DoesNotFit, TooNear}
 use Rattle.component.specs.declared.model_component.Component.{Component}
 use Rattle.component.specs.declared.model_component.Component.TheVariants.{Constant}
 use Rattle.component.proofs.Theorems.Setting.{same_count}
@@ -289,10 +289,10 @@ module _ {m : Model} (g : Good m) where
   fit_unwire t i none e = fit_refuse g
   fit_unwire t i (some l) e = fit_check _ _ _ _ g (λ _. record { fit = fit_list t l i none e tt })
 
-  fit_settle : (t : Tag) (c : Component) (s : Setting) → component m t ≡ some c → ((k : Component) → s ≡ Changed k → input_count k ≡ input_count c) → Fit (settle m t s)
-  fit_settle t c DoesNotFit e h = fit_refuse g
-  fit_settle t c TooNear e h = fit_refuse g
-  fit_settle t c (Changed k) e h = record { fit = good_set g t c k e (h k refl) }
+  fit_settle : (t : Tag) (c : Component) (s : Setting) → component m t ≡ some c → ((k : Component) → s ≡ Ok k → input_count k ≡ input_count c) → Fit (settle m t s)
+  fit_settle t c (Err DoesNotFit) e h = fit_refuse g
+  fit_settle t c (Err TooNear) e h = fit_refuse g
+  fit_settle t c (Ok k) e h = record { fit = good_set g t c k e (h k refl) }
 
   fit_set : (t : Tag) (n : Name) (d : Data) (c : Option Component) → component m t ≡ c → Fit (set_in m t n d c)
   fit_set t n d none e = fit_refuse g

@@ -1,4 +1,5 @@
 -- A refused edit changes nothing: the model after it is the one before it. Assumes nothing.
+use Rattle.std.specs.Prelude.{Ok, Err}
 use mathlib.Core.Path.{◌≡◌, refl}
 use mathlib.Core.Bool.{Bool, true, false, cond}
 use mathlib.Core.List.{List}
@@ -7,10 +8,9 @@ use Prim.Native.Nat.{ℕ}
 use native.Mathlib.Omega.{arith}
 use Rattle.tag.specs.Tags.{Tag}
 use Rattle.component.specs.Kind.{is_operation}
-use Rattle.component.specs.Parameter.{Name, set_parameter as parameterSet}
+use Rattle.component.specs.Parameter.{Name, set_parameter as parameterSet, Setting}
 use Rattle.component.specs.declared.parameter.Data.{Data}
-use Rattle.component.specs.declared.model_component.Setting.{Setting}
-use Rattle.component.specs.declared.model_component.Setting.TheVariants.{Changed, DoesNotFit, TooNear}
+use Rattle.component.specs.declared.parameter.ParameterError.TheVariants.{DoesNotFit, TooNear}
 use Rattle.component.specs.declared.model_component.Component.{Component}
 use Rattle.model.specs.Model.{Place, Model, component, list}
 use Rattle.model.specs.Walk.{Walked, clear, met, gapped, walk_from}
@@ -65,9 +65,9 @@ module _ (m : Model) where
   kept_unwire t i (some l) = kept-check _ _ _ _ kept-done
 
   kept-settle : (t : Tag) (s : Setting) → Kept m (settle m t s)
-  kept-settle t DoesNotFit = kept-refuse
-  kept-settle t TooNear = kept-refuse
-  kept-settle t (Changed c) = kept-done
+  kept-settle t (Err DoesNotFit) = kept-refuse
+  kept-settle t (Err TooNear) = kept-refuse
+  kept-settle t (Ok c) = kept-done
 
   kept_set : (t : Tag) (n : Name) (d : Data) (c : Option Component) → Kept m (set_in m t n d c)
   kept_set t n d none = kept-refuse

@@ -1,4 +1,5 @@
 -- Every adding spares a form that compiles, and so does every edit that aims outside its reach. Assumes nothing.
+use Rattle.std.specs.Prelude.{Ok, Err}
 use mathlib.Core.Path.{◌≡◌, refl, sym, ◌∙◌, ap, ap₂, subst}
 use mathlib.Core.Logic.{◌≢◌}
 use mathlib.Core.Bool.{Bool, true, false, cond}
@@ -9,10 +10,9 @@ use Prim.Native.Nat.{ℕ}
 use Rattle.tag.specs.Tags.{Tag}
 use Rattle.tag.proofs.Laws.Is.{is_false}
 use Rattle.component.specs.Kind.{is_operation}
-use Rattle.component.specs.Parameter.{Name, set_parameter as parameterSet}
+use Rattle.component.specs.Parameter.{Name, set_parameter as parameterSet, Setting}
 use Rattle.component.specs.declared.parameter.Data.{Data}
-use Rattle.component.specs.declared.model_component.Setting.{Setting}
-use Rattle.component.specs.declared.model_component.Setting.TheVariants.{Changed, DoesNotFit, TooNear}
+use Rattle.component.specs.declared.parameter.ParameterError.TheVariants.{DoesNotFit, TooNear}
 use Rattle.component.specs.declared.model_component.Component.{Component}
 use Rattle.model.specs.Table.{move}
 use Rattle.model.specs.Model.{Place, Model, component, list}
@@ -115,9 +115,9 @@ module _ {m : Model} {t : Tag} (h : Compiles m t) where
     fine_unwire i (some l) = fine_check _ _ _ _ (λ _. record { agrees = fine_list _ })
 
     fine_settle : (x : Setting) → Fine m t (settle m s x)
-    fine_settle DoesNotFit = fine_refuse
-    fine_settle TooNear = fine_refuse
-    fine_settle (Changed c) = record { agrees = record { components = λ a r. find_put_other a s c m.components (not_out r); lists = λ a r. refl } }
+    fine_settle (Err DoesNotFit) = fine_refuse
+    fine_settle (Err TooNear) = fine_refuse
+    fine_settle (Ok c) = record { agrees = record { components = λ a r. find_put_other a s c m.components (not_out r); lists = λ a r. refl } }
 
     fine_set : (n : Name) (d : Data) (c : Option Component) → Fine m t (set_in m s n d c)
     fine_set n d none = fine_refuse

@@ -1,4 +1,5 @@
 -- An edit does not see table positions: on two models that are the same, and that 7 lets pass, it answers the same and leaves the same. Assumes nothing.
+use Rattle.std.specs.Prelude.{Ok, Err}
 use mathlib.Core.Path.{◌≡◌, refl, sym, ◌∙◌, ap, ap₂, subst}
 use mathlib.Core.Bool.{Bool, true, false, not, ◌&&◌, cond}
 use mathlib.Core.List.{List, [], ◌∷◌, ◌++◌, map}
@@ -10,10 +11,9 @@ use lib.ListN.{length, set, replicate}
 use Rattle.tag.specs.Tags.{Tag, is, numbered}
 use Rattle.component.specs.Value.{input_count}
 use Rattle.component.specs.Kind.{is_function, is_operation}
-use Rattle.component.specs.Parameter.{Name, set_parameter as parameterSet}
+use Rattle.component.specs.Parameter.{Name, set_parameter as parameterSet, Setting}
 use Rattle.component.specs.declared.parameter.Data.{Data}
-use Rattle.component.specs.declared.model_component.Setting.{Setting}
-use Rattle.component.specs.declared.model_component.Setting.TheVariants.{Changed, DoesNotFit, TooNear}
+use Rattle.component.specs.declared.parameter.ParameterError.TheVariants.{DoesNotFit, TooNear}
 use Rattle.component.specs.declared.model_component.Component.{Component}
 use Rattle.component.specs.declared.model_component.Component.TheVariants.{Constant}
 use Rattle.model.specs.Table.{held, move}
@@ -157,9 +157,9 @@ module _ {m n : Model} (g : Good m) (h : Good n) (s : Same m n) where
   }
 
   alike_settle : (t : Tag) (c : Setting) → Alike (settle m t c) (settle n t c)
-  alike_settle t DoesNotFit = alike_refuse _ _ _
-  alike_settle t TooNear = alike_refuse _ _ _
-  alike_settle t (Changed c) = record { answer = refl; model = record { components = even_put m.components n.components s.components t c; lists = s.lists; default = s.default } }
+  alike_settle t (Err DoesNotFit) = alike_refuse _ _ _
+  alike_settle t (Err TooNear) = alike_refuse _ _ _
+  alike_settle t (Ok c) = record { answer = refl; model = record { components = even_put m.components n.components s.components t c; lists = s.lists; default = s.default } }
 
   alike_set : (t : Tag) (x : Name) (d : Data) (c : Option Component) → Alike (set_in m t x d c) (set_in n t x d c)
   alike_set t x d none = alike_refuse _ _ _

@@ -1,7 +1,7 @@
 -- What has a number compiles. A number's derivation is finite, and takes a component and assigned places at every tag that it passes. Assumes nothing.
 use mathlib.Core.Path.{◌≡◌, refl, sym, ◌∙◌, subst}
 use mathlib.Core.Logic.{◌⊎◌, inl, inr}
-use mathlib.Core.List.{List, [], ◌∷◌, Memᴰ}
+use mathlib.Core.List.{List, Memᴰ}
 use mathlib.Core.Option.{none, some}
 use lib.Ieee.{Float}
 use Rattle.tag.specs.Tags.{Tag}

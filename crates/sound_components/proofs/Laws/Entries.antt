@@ -8,11 +8,17 @@ use Prim.Native.Nat.{ℕ, zero, suc, ◌<◌, ◌≤◌}
 use lib.Dec.{eqb}
 use lib.ListN.{length}
 use borrow.Author.Tests.{le-leb, lt-leb}
+use Rattle.std.specs.Prelude.{Some, None}
+use Rattle.tag.specs.Tags.{Tag}
 use Rattle.tag.specs.View.{bytes_of, tag_fits}
 use Rattle.component.specs.Value.{input_count}
 use Rattle.model.specs.declared.implicit_model.ComponentEntry.{ComponentEntry}
+use Rattle.model.specs.declared.implicit_model.InputList.{InputList}
+use Rattle.model.specs.declared.implicit_model.Model.{Model as Record}
 use Rattle.model.specs.Table.{Table, find}
-use Rattle.model.specs.Model.{Place, counted}
+use Rattle.model.specs.Model.{Place, counted, list}
+use Rattle.model.specs.View.{place_of, rows, lists_of, view}
+use Rattle.held.specs.Reading.{places_read}
 use Rattle.sound_components.specs.Sound.{entry_sound}
 
 counted-zero : (n : ℕ) (o : Option (List Place)) → n ≡ 0 → counted n o ≡ true
@@ -44,3 +50,14 @@ module _ (ls : Table (List Place)) (e : ComponentEntry) where
 
     pub entry_found : n ≢ 0 → (l : List Place) → find (bytes_of e.tag) ls ≡ some l → entry_sound ls e ≡ eqb (length l) n
     entry_found z l p = rw (short', p, counted_some (input_count e.component) l (λ q. z (takes ∙ q)), takes)
+
+-- ---- what `get_inputs` read
+
+module _ (m : Record) (t : Tag) where
+  pub unread : places_read None ≡ list (view m) t → find t (lists_of m) ≡ none
+  unfolding places_read view
+  unread h = sym h
+
+  pub places_at : (l : InputList) → places_read (Some l) ≡ list (view m) t → find t (lists_of m) ≡ some (rows place_of l.count l.places)
+  unfolding places_read view
+  places_at l h = sym h

@@ -1,24 +1,23 @@
 -- Tests of all rows, tags within their size, and an input list as 7 judges it. Assumes nothing.
-use mathlib.Core.Path.{◌≡◌, refl, sym, ap, subst}
-use mathlib.Core.Bool.{Bool, true, false, not, ◌&&◌, cond}
+use mathlib.Core.Path.{◌≡◌, refl, sym, ◌∙◌, ap, subst}
+use mathlib.Core.Bool.{Bool, true, false, not, ◌&&◌}
 use mathlib.Core.List.{List, [], ◌∷◌, map}
-use mathlib.Core.Option.{none, some}
-use Prim.Native.Nat.{ℕ, ◌<◌, ◌≤◌}
+use Prim.Native.Nat.{ℕ, ◌<◌, ◌≤◌, min}
 use native.Mathlib.Omega.{arith}
 use lib.Dec.{T, leb, ltb, leb→le, le→leb, not_T, ltb→lt}
 use lib.ListN.{take, length, length-take}
 use borrow.Author.Tests.{lt-leb}
+use Rattle.std.specs.Prelude.{Some, None}
 use Rattle.tag.specs.declared.Tag.{Tag as Label}
 use Rattle.tag.specs.Tags.{overlong}
 use Rattle.tag.specs.View.{bytes_of, tag_fits}
-use Rattle.model.specs.declared.implicit_model.Place.{Place as PlaceRecord}
 use Rattle.model.specs.declared.implicit_model.InputList.{InputList}
 use Rattle.model.specs.Table.{all}
-use Rattle.model.specs.Model.{short_place, good_list, tests}
-use Rattle.model.specs.View.{place_of, rows, list_of, every, place_fits, list_fits}
+use Rattle.model.specs.Model.{short_place, good_list}
+use Rattle.model.specs.View.{PlaceRecord, place_of, rows, list_of, every, place_fits, list_fits}
 use Rattle.model.proofs.Laws.Bool.{T→true, and_T, and_T₁, and_T₂}
 use Rattle.model.proofs.Laws.Valid.{Passed, passed, unpassed}
-use Rattle.held.proofs.Laws.Rows.{rows-length}
+use Rattle.held.proofs.Laws.Rows.{rows-live}
 use Rattle.sound_lists.specs.Sound.{list_sound}
 
 -- tests that hold of the same are one
@@ -65,13 +64,14 @@ fits-short t h = not_T (ltb 32 (length (take t.len t.bytes))) (λ k. let q = leb
 
 pub place_short : (p : PlaceRecord) → T (place_fits p) → T (short_place (place_of p))
 unfolding place_fits place_of
-place_short p h = go p.assigned h
-  where
-    go : (b : Bool) → T (cond b (tag_fits p.tag) true) → T (short_place (cond b (some (bytes_of p.tag)) none))
-    go true h = fits-short p.tag h
-    go false h = tt
+place_short (Some t) h = fits-short t h
+place_short None h = tt
 
 -- ---- one list
+
+-- a list's live places, as many as are seen
+pub seen-length : (l : InputList) {ps : List PlaceRecord} → ps ≡ take l.count l.places → length ps ≡ min l.count 3 → length (rows place_of l.count l.places) ≡ min l.count 3
+seen-length l e b = let live = rows-live place_of l.places l.count 3 e b in sym live.live ∙ live.bound
 
 pub list_parts : (l : InputList) → T (list_fits l) → Passed (tag_fits l.tag ∷ leb l.count 3 ∷ every (rows place_fits l.count l.places) ∷ [])
 unfolding list_fits
@@ -80,7 +80,7 @@ list_parts l h = passed (tag_fits l.tag ∷ leb l.count 3 ∷ every (rows place_
 pub places-short : (l : InputList) → T (every (rows place_fits l.count l.places)) → T (all short_place (rows place_of l.count l.places))
 places-short l h = subst T (sym (all-rows short_place place_of l.count l.places)) (imply_rows place_fits (λ p. short_place (place_of p)) place_short l.count l.places h)
 
-module _ (l : InputList) (size : length l.places ≡ 3) where
+module _ (l : InputList) (size : length (rows place_of l.count l.places) ≡ min l.count 3) where
   pub list-long : 32 < l.tag.len → false ≡ list_sound l
   unfolding list_fits tag_fits
   list-long h = sym (rw (lt-leb l.tag.len 32 h))
@@ -88,7 +88,7 @@ module _ (l : InputList) (size : length l.places ≡ 3) where
   pub list-none : l.count < 1 → false ≡ list_sound l
   list-none h = bool_ext false (list_sound l) (λ z. absurd z)
       (λ t. let q : 1 ≤ length (rows place_of l.count l.places) = leb→le 1 (length (rows place_of l.count l.places)) (and_T₁ (leb 1 (length (rows place_of l.count l.places))) (leb (length (rows place_of l.count l.places)) 3 && all short_place (rows place_of l.count l.places)) (and_T₂ (list_fits l) (good_list (list_of l)) t)) in
-      let z : ⊥ = omega (arith, rows-length place_of l.places l.count) in z)
+      let z : ⊥ = omega arith in z)
 
   pub list-many : 3 < l.count → false ≡ list_sound l
   list-many h = bool_ext false (list_sound l) (λ z. absurd z)
@@ -97,7 +97,6 @@ module _ (l : InputList) (size : length l.places ≡ 3) where
   pub list-sound : l.tag.len ≤ 32 → 1 ≤ l.count → l.count ≤ 3 → every (rows place_fits l.count l.places) ≡ list_sound l
   unfolding list_fits tag_fits
   list-sound a b c =
-      let n = rows-length place_of l.places l.count in
       bool_ext _ _
       (λ t. and_T (list_fits l) (good_list (list_of l)) (unpassed (tag_fits l.tag ∷ leb l.count 3 ∷ every (rows place_fits l.count l.places) ∷ []) (le→leb l.tag.len 32 a, (le→leb l.count 3 c, (t, tt))))
       (and_T (leb 1 (length (rows place_of l.count l.places))) (leb (length (rows place_of l.count l.places)) 3 && all short_place (rows place_of l.count l.places)) (le→leb 1 (length (rows place_of l.count l.places)) (omega arith))

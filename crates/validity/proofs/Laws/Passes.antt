@@ -1,21 +1,22 @@
 -- 7 as the code judges it, row by row, and that this is what is defined. Assumes nothing.
-use mathlib.Core.Path.{◌≡◌, sym, subst}
-use mathlib.Core.Bool.{Bool, true, false}
-use mathlib.Core.List.{List, [], ◌∷◌}
+use mathlib.Core.Path.{◌≡◌, sym, ◌∙◌, ap, subst}
+use mathlib.Core.Bool.{Bool, true, false, ◌&&◌, and-true}
+use Rattle.std.proofs.Math.Bool.{and_assoc}
+use mathlib.Core.List.{List, [], ◌∷◌, ◌++◌}
 use Prim.Native.Nat.{ℕ, ◌<◌, ◌≤◌}
 use native.Mathlib.Omega.{arith}
 use lib.Dec.{T, leb, leb→le, le→leb}
 use lib.ListN.{length}
 use borrow.Author.Tests.{le-leb, lt-leb}
+use Rattle.std.specs.Prelude.{Option, Some, None, is_some}
+use Rattle.tag.specs.declared.Tag.{Tag as Label}
 use Rattle.tag.specs.View.{bytes_of, tag_fits}
 use Rattle.component.specs.declared.model_component.Component.{Component}
-use Rattle.model.specs.declared.implicit_model.Place.{Place as PlaceRecord}
 use Rattle.model.specs.declared.implicit_model.Model.{Model as Record}
-use Rattle.held.specs.declared.find.Found.TheVariants.{At, Nothing}
-use Rattle.model.specs.Table.{all, Table, distinct}
+use Rattle.model.specs.Table.{Table, held, distinct}
 use Rattle.model.specs.Model.{short_tag, good_list, listed, named, tests, valid}
 use Rattle.model.specs.View.{place_of, rows, component_of, list_of, components_of, lists_of, view, every, place_fits, entry_fits, list_fits, sizes, fits, passes}
-use Rattle.held.specs.Search.{position}
+use Rattle.held.specs.Search.{position, Sought}
 use Rattle.model.proofs.Laws.Bool.{and_T, and_T₁, and_T₂}
 use Rattle.model.proofs.Laws.Valid.{passed, unpassed}
 use Rattle.held.proofs.Laws.Rows.{rows-length}
@@ -25,7 +26,7 @@ use Rattle.sound_lists.proofs.Laws.Lists.{bool_ext, all-rows, imply_rows, join_r
 use Rattle.sound_components.specs.Sound.{entry_sound}
 use Rattle.validity.specs.Sound.{default_sound}
 
-abbrev judged : Record → List Bool
+abbrev pub judged : Record → List Bool
 judged m =
     leb m.component_count 64
     ∷ leb m.list_count 128
@@ -39,28 +40,32 @@ judged m =
 unfoldable pub checks : Record → Bool
 checks m = every (judged m)
 
+every_more : (bs : List Bool) (x : Bool) → every (bs ++ (x ∷ [])) ≡ every bs && x
+every_more [] x = and-true x
+every_more (b ∷ bs) x = ap (λ (r : Bool). b && r) (every_more bs x) ∙ sym (and_assoc b (every bs) x)
+
+-- one test more, after tests that came to b: it is asked only where they passed
+module _ (bs : List Bool) (x : Bool) {b r : Bool} (h : b ≡ every bs) where
+  pub asked : b ≡ true → r ≡ x → r ≡ every (bs ++ (x ∷ []))
+  asked e q = rw (every_more bs x, ← h, e) q
+
+  pub unasked : b ≡ false → r ≡ b → r ≡ every (bs ++ (x ∷ []))
+  unasked e q = rw (every_more bs x, ← h, e) (q ∙ e)
+
 -- ---- the default
 
-module _ (cs : Table Component) (p : PlaceRecord) where
-  pub default_none : p.assigned ≡ false → true ≡ default_sound cs p
-  unfolding place_fits place_of
-  default_none h = sym (rw h)
+module _ (cs : Table Component) (t : Label) where
+  pub default-long : 32 < t.len → false ≡ default_sound cs (Some t)
+  unfolding place_fits place_of tag_fits
+  default-long h = sym (rw (lt-leb t.len 32 h))
 
-  module _ (given : p.assigned ≡ true) where
-    pub default-long : 32 < p.tag.len → false ≡ default_sound cs p
-    unfolding place_fits place_of tag_fits
-    default-long h = sym (rw (given, lt-leb p.tag.len 32 h))
-
-    pub default-found : (i : ℕ) → p.tag.len ≤ 32 → position (bytes_of p.tag) 0 cs ≡ At i → true ≡ default_sound cs p
-    unfolding place_fits place_of tag_fits
-    default-found i h q = sym (rw (given, le-leb p.tag.len 32 h, position-held _ 0 i cs q))
-
-    pub default-missing : position (bytes_of p.tag) 0 cs ≡ Nothing → false ≡ default_sound cs p
-    unfolding place_of
-    default-missing q = bool_ext false (default_sound cs p) (λ z. absurd z) (λ t. no (and_T₂ (place_fits p) (named cs (place_of p)) t))
-      where
-        no : T (named cs (place_of p)) → ⊥
-        no t = let z : named cs (place_of p) ≡ false = rw (given, position-free (bytes_of p.tag) 0 cs q) in subst T z t
+  pub default-searched : {cap : ℕ} {f : Option ℕ} → t.len ≤ 32 → Sought cs cap (bytes_of t) f → is_some f ≡ default_sound cs (Some t)
+  unfolding place_fits place_of tag_fits
+  default-searched h p = rw (le-leb t.len 32 h) (go _ p.at)
+    where
+      go : (f : Option ℕ) → f ≡ position (bytes_of t) 0 cs → is_some f ≡ held (bytes_of t) cs
+      go (Some i) e = sym (position-held _ 0 i cs (sym e))
+      go None e = sym (position-free _ 0 cs (sym e))
 
 -- ---- all of it
 

@@ -1,22 +1,19 @@
 -- `validity::default_sound` meets its contract: `Laws/Passes.antt`. Assumes nothing.
-use native.Mathlib.Omega.{arith}
-use mathlib.Core.Path.{sym, ◌∙◌}
-use Rattle.model.specs.View.{components_of}
-use Rattle.validity.proofs.Laws.Passes.{default_none, default-long, default-found, default-missing}
+use mathlib.Core.Path.{refl, ◌∙◌}
+use borrow.Author.Tests.{lt-leb}
+use Rattle.model.specs.View.{place_of, components_of, place_fits}
+use Rattle.validity.proofs.Laws.Passes.{default-long, default-searched}
 use Rattle.validity.proofs.default_sound.Goals as goal
 
-pub returns-then-t-gt32 : goal.returns-then-t-gt32
-returns-then-t-gt32 c = let m = c.args.m in default-long (components_of m) m.default c.if-d.true (omega arith)
+pub returns-then-tag-le32 : goal.returns-then-tag-le32
+returns-then-tag-le32 c =
+    let m = c.args.m.now in
+    rw c.in-Some.is (c.is_some.ensures ∙ default-searched (components_of m) c.in-Some.tag c.if-tag-le32.true c.find_component.ensures)
 
-pub returns-in-At : goal.returns-in-At
-returns-in-At c =
-    let m = c.args.m in
-    default-found (components_of m) m.default c.if-d.true _ (omega arith) (sym c.find_component-f.ensures.at ∙ c.in-At.is)
+pub returns-else-tag-le32 : goal.returns-else-tag-le32
+returns-else-tag-le32 c =
+    rw c.in-Some.is (lt-leb c.in-Some.tag.len 32 c.if-tag-le32.false ∙ default-long (components_of c.args.m.now) c.in-Some.tag c.if-tag-le32.false)
 
-pub returns-in_default : goal.returns-in_default
-returns-in_default c =
-    let m = c.args.m in
-    default-missing (components_of m) m.default c.if-d.true (sym c.find_component-f.ensures.at ∙ c.in_default.is)
-
-pub returns-else-d : goal.returns-else-d
-returns-else-d c = let m = c.args.m in default_none (components_of m) m.default c.if-d.false
+pub returns-in-None : goal.returns-in-None
+unfolding place_of place_fits
+returns-in-None c = rw c.in-None.is refl

@@ -1,78 +1,64 @@
 -- `validity::is_valid` meets its contract: `Laws/Passes.antt`. Assumes nothing.
-use mathlib.Core.Path.{◌≡◌, sym, ◌∙◌}
-use mathlib.Core.Bool.{true, false, and-true}
+use mathlib.Core.Path.{◌≡◌, refl, sym, ◌∙◌, ap}
+use mathlib.Core.Bool.{and-true}
+use mathlib.Core.List.{map}
 use borrow.Author.Tests.{le-leb, lt-leb}
-use native.Mathlib.Omega.{arith}
-use lib.Dec.{leb}
-use Rattle.model.specs.Table.{distinct}
-use Rattle.model.specs.View.{rows, every, components_of, lists_of}
+use lib.ListN.{take}
+use Rattle.model.specs.View.{rows, every, component_of, list_of}
+use Rattle.distinct_tags.proofs.Laws.Behind.{distinct_rows}
 use Rattle.sound_lists.specs.Sound.{list_sound}
-use Rattle.sound_components.specs.Sound.{entry_sound}
-use Rattle.validity.proofs.Laws.Passes.{checks, checks_passes}
+use Rattle.validity.proofs.Laws.Passes.{judged, checks, asked, unasked, checks_passes}
 use Rattle.validity.proofs.is_valid.Goals as goal
+use Rattle.validity.proofs.is_valid.Goals.{then-m-le64, else-m-le64, then-m-le128, else-m-le128, then-lists_sound, else-lists_sound, then-components_sound, else-components_sound, then-distinct, else-distinct}
 
-pub returns-then-m-gt64 : goal.returns-then-m-gt64
-unfolding checks
-returns-then-m-gt64 c =
-    let m = c.args.m in
-    (let k : false ≡ checks m = rw (lt-leb m.component_count 64 (omega arith)) in k) ∙ checks_passes m
+pub returns-then-distinct-2 : goal.returns-then-distinct-2
+unfolding checks rows
+returns-then-distinct-2 c =
+    let m = c.args.m.now in
+    let v1 : c.if-m-le64.value ≡ every (take 2 (judged m)) = elim c.if-m-le64.branch [
+      | then-m-le64 w ↦ asked (take 1 (judged m)) _ (sym (and-true _)) (le-leb m.component_count 64 w.if-m-le64.true) w.value-is
+      | else-m-le64 w ↦ unasked (take 1 (judged m)) _ (sym (and-true _)) (lt-leb m.component_count 64 w.if-m-le64.false) w.value-is
+    ] in
+    let v2 : c.if-m-le128.value ≡ every (take 3 (judged m)) = elim c.if-m-le128.branch [
+      | then-m-le128 w ↦ asked (take 2 (judged m)) _ v1 w.if-m-le128.true (w.value-is ∙ (w.lists_sound.ensures ∙ ap (λ ls. every (map list_sound ls)) w.live_lists.ensures.rows))
+      | else-m-le128 w ↦ unasked (take 2 (judged m)) _ v1 w.if-m-le128.false w.value-is
+    ] in
+    let v3 : c.if-lists_sound.value ≡ every (take 4 (judged m)) = elim c.if-lists_sound.branch [
+      | then-lists_sound w ↦ asked (take 3 (judged m)) _ v2 w.if-lists_sound.true (w.value-is ∙ w.components_sound.ensures)
+      | else-lists_sound w ↦ unasked (take 3 (judged m)) _ v2 w.if-lists_sound.false w.value-is
+    ] in
+    let v4 : c.if-components_sound.value ≡ every (take 5 (judged m)) = elim c.if-components_sound.branch [
+      | then-components_sound w ↦ asked (take 4 (judged m)) _ v3 w.if-components_sound.true (w.value-is ∙ (w.distinct.ensures ∙ distinct_rows component_of m.components m.component_count w.live_components.ensures.rows))
+      | else-components_sound w ↦ unasked (take 4 (judged m)) _ v3 w.if-components_sound.false w.value-is
+    ] in
+    let v5 : c.if-distinct.value ≡ every (take 6 (judged m)) = elim c.if-distinct.branch [
+      | then-distinct w ↦ asked (take 5 (judged m)) _ v4 w.if-distinct.true (w.value-is ∙ (w.distinct-then-distinct.ensures ∙ distinct_rows list_of m.lists m.list_count w.live_lists-then-distinct.ensures.rows))
+      | else-distinct w ↦ unasked (take 5 (judged m)) _ v4 w.if-distinct.false w.value-is
+    ] in
+    asked (take 6 (judged m)) _ v5 c.if-distinct-2.true c.default_sound.ensures ∙ checks_passes m
 
-pub returns-then-m-gt128 : goal.returns-then-m-gt128
-unfolding checks
-returns-then-m-gt128 c =
-    let m = c.args.m in
-    (let k : false ≡ checks m = rw (le-leb m.component_count 64 (omega arith), lt-leb m.list_count 128 (omega arith)) in k) ∙ checks_passes m
-
-pub returns-then-not-lists_sound : goal.returns-then-not-lists_sound
-unfolding checks
-returns-then-not-lists_sound c =
-    let few_components : leb c.args.m.component_count 64 ≡ true = le-leb c.args.m.component_count 64 c.if-m-gt64.false in
-    let few_lists : leb c.args.m.list_count 128 ≡ true = le-leb c.args.m.list_count 128 c.if-m-gt128.false in
-    let m = c.args.m in
-    let h : every (rows list_sound m.list_count m.lists) ≡ false = sym c.lists_sound.ensures ∙ c.if-not-lists_sound.true in
-    (let k : false ≡ checks m = rw (few_components, few_lists, h) in k) ∙ checks_passes m
-
-pub returns-then-not-components_sound : goal.returns-then-not-components_sound
-unfolding checks
-returns-then-not-components_sound c =
-    let lists-sound : every (rows list_sound c.args.m.list_count c.args.m.lists) ≡ true = sym c.lists_sound.ensures ∙ c.if-not-lists_sound.false in
-    let few_components : leb c.args.m.component_count 64 ≡ true = le-leb c.args.m.component_count 64 c.if-m-gt64.false in
-    let few_lists : leb c.args.m.list_count 128 ≡ true = le-leb c.args.m.list_count 128 c.if-m-gt128.false in
-    let m = c.args.m in
-    let h : every (rows (entry_sound (lists_of m)) m.component_count m.components) ≡ false = sym c.components_sound.ensures ∙ c.if-not-components_sound.true in
-    (let k : false ≡ checks m = rw (few_components, few_lists, lists-sound, h) in k) ∙ checks_passes m
-
-pub returns-then-not-components_distinct : goal.returns-then-not-components_distinct
-unfolding checks
-returns-then-not-components_distinct c =
-    let lists-sound : every (rows list_sound c.args.m.list_count c.args.m.lists) ≡ true = sym c.lists_sound.ensures ∙ c.if-not-lists_sound.false in
-    let components-sound : (let m = c.args.m in every (rows (entry_sound (lists_of m)) m.component_count m.components)) ≡ true = sym c.components_sound.ensures ∙ c.if-not-components_sound.false in
-    let few_components : leb c.args.m.component_count 64 ≡ true = le-leb c.args.m.component_count 64 c.if-m-gt64.false in
-    let few_lists : leb c.args.m.list_count 128 ≡ true = le-leb c.args.m.list_count 128 c.if-m-gt128.false in
-    let m = c.args.m in
-    let h : distinct (components_of m) ≡ false = sym c.components_distinct.ensures ∙ c.if-not-components_distinct.true in
-    (let k : false ≡ checks m = rw (few_components, few_lists, lists-sound, components-sound, h) in k) ∙ checks_passes m
-
-pub returns-then-not-lists_distinct : goal.returns-then-not-lists_distinct
-unfolding checks
-returns-then-not-lists_distinct c =
-    let lists-sound : every (rows list_sound c.args.m.list_count c.args.m.lists) ≡ true = sym c.lists_sound.ensures ∙ c.if-not-lists_sound.false in
-    let components-sound : (let m = c.args.m in every (rows (entry_sound (lists_of m)) m.component_count m.components)) ≡ true = sym c.components_sound.ensures ∙ c.if-not-components_sound.false in
-    let components-distinct : distinct (components_of c.args.m) ≡ true = sym c.components_distinct.ensures ∙ c.if-not-components_distinct.false in
-    let few_components : leb c.args.m.component_count 64 ≡ true = le-leb c.args.m.component_count 64 c.if-m-gt64.false in
-    let few_lists : leb c.args.m.list_count 128 ≡ true = le-leb c.args.m.list_count 128 c.if-m-gt128.false in
-    let m = c.args.m in
-    let h : distinct (lists_of m) ≡ false = sym c.lists_distinct.ensures ∙ c.if-not-lists_distinct.true in
-    (let k : false ≡ checks m = rw (few_components, few_lists, lists-sound, components-sound, components-distinct, h) in k) ∙ checks_passes m
-
-pub returns : goal.returns
-unfolding checks
-returns c =
-    let lists-sound : every (rows list_sound c.args.m.list_count c.args.m.lists) ≡ true = sym c.lists_sound.ensures ∙ c.if-not-lists_sound.false in
-    let components-sound : (let m = c.args.m in every (rows (entry_sound (lists_of m)) m.component_count m.components)) ≡ true = sym c.components_sound.ensures ∙ c.if-not-components_sound.false in
-    let components-distinct : distinct (components_of c.args.m) ≡ true = sym c.components_distinct.ensures ∙ c.if-not-components_distinct.false in
-    let lists-distinct : distinct (lists_of c.args.m) ≡ true = sym c.lists_distinct.ensures ∙ c.if-not-lists_distinct.false in
-    let few_components : leb c.args.m.component_count 64 ≡ true = le-leb c.args.m.component_count 64 c.if-m-gt64.false in
-    let few_lists : leb c.args.m.list_count 128 ≡ true = le-leb c.args.m.list_count 128 c.if-m-gt128.false in
-    let m = c.args.m in
-    (let k : c.default_sound.result ≡ checks m = rw (few_components, few_lists, lists-sound, components-sound, components-distinct, lists-distinct, and-true) c.default_sound.ensures in k) ∙ checks_passes m
+pub returns-else-distinct-2 : goal.returns-else-distinct-2
+unfolding checks rows
+returns-else-distinct-2 c =
+    let m = c.args.m.now in
+    let v1 : c.if-m-le64.value ≡ every (take 2 (judged m)) = elim c.if-m-le64.branch [
+      | then-m-le64 w ↦ asked (take 1 (judged m)) _ (sym (and-true _)) (le-leb m.component_count 64 w.if-m-le64.true) w.value-is
+      | else-m-le64 w ↦ unasked (take 1 (judged m)) _ (sym (and-true _)) (lt-leb m.component_count 64 w.if-m-le64.false) w.value-is
+    ] in
+    let v2 : c.if-m-le128.value ≡ every (take 3 (judged m)) = elim c.if-m-le128.branch [
+      | then-m-le128 w ↦ asked (take 2 (judged m)) _ v1 w.if-m-le128.true (w.value-is ∙ (w.lists_sound.ensures ∙ ap (λ ls. every (map list_sound ls)) w.live_lists.ensures.rows))
+      | else-m-le128 w ↦ unasked (take 2 (judged m)) _ v1 w.if-m-le128.false w.value-is
+    ] in
+    let v3 : c.if-lists_sound.value ≡ every (take 4 (judged m)) = elim c.if-lists_sound.branch [
+      | then-lists_sound w ↦ asked (take 3 (judged m)) _ v2 w.if-lists_sound.true (w.value-is ∙ w.components_sound.ensures)
+      | else-lists_sound w ↦ unasked (take 3 (judged m)) _ v2 w.if-lists_sound.false w.value-is
+    ] in
+    let v4 : c.if-components_sound.value ≡ every (take 5 (judged m)) = elim c.if-components_sound.branch [
+      | then-components_sound w ↦ asked (take 4 (judged m)) _ v3 w.if-components_sound.true (w.value-is ∙ (w.distinct.ensures ∙ distinct_rows component_of m.components m.component_count w.live_components.ensures.rows))
+      | else-components_sound w ↦ unasked (take 4 (judged m)) _ v3 w.if-components_sound.false w.value-is
+    ] in
+    let v5 : c.if-distinct.value ≡ every (take 6 (judged m)) = elim c.if-distinct.branch [
+      | then-distinct w ↦ asked (take 5 (judged m)) _ v4 w.if-distinct.true (w.value-is ∙ (w.distinct-then-distinct.ensures ∙ distinct_rows list_of m.lists m.list_count w.live_lists-then-distinct.ensures.rows))
+      | else-distinct w ↦ unasked (take 5 (judged m)) _ v4 w.if-distinct.false w.value-is
+    ] in
+    unasked (take 6 (judged m)) _ v5 c.if-distinct-2.false refl ∙ checks_passes m

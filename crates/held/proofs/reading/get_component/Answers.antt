@@ -1,22 +1,11 @@
 -- `held::reading::get_component` meets its contract: `Laws/Reading.antt`. Assumes nothing.
 use mathlib.Core.Path.{sym, ◌∙◌}
-use native.Mathlib.Omega.{arith}
 use Rattle.tag.specs.View.{bytes_of}
 use Rattle.held.proofs.Laws.Reading.{component-held, component-missing}
 use Rattle.held.proofs.reading.get_component.Goals as goal
 
-pub returns-in_default : goal.returns-in_default
-returns-in_default c =
-    let a = c.args in
-    component-missing a.m (bytes_of a.t) (sym c.find_component-f.ensures.at ∙ c.in_default.is)
-
-pub offset_bounds-m-i : goal.offset_bounds-m-i
-offset_bounds-m-i c = omega (arith, c.find_component-f.ensures.within _ c.in-At.is)
-
-pub bounds-m-i : goal.bounds-m-i
-bounds-m-i c = c.find_component-f.ensures.within _ c.in-At.is
+pub returns-in_err-i : goal.returns-in_err-i
+returns-in_err-i c = rw c.from_residual.ensures (component-missing c.args.m.now (bytes_of c.args.t) (sym c.find_component.ensures.at ∙ c.in_err-i.was))
 
 pub returns : goal.returns
-returns c =
-    let a = c.args in
-    component-held a.m (bytes_of a.t) _ (sym c.find_component-f.ensures.at ∙ c.in-At.is)
+returns c = component-held c.args.m.now (bytes_of c.args.t) c.in_ok-i.i (sym c.find_component.ensures.at ∙ c.in_ok-i.was)

@@ -4,4 +4,4 @@ use Rattle.held.proofs.Laws.Reading.{new-record}
 use Rattle.held.proofs.reading.new.Goals as goal
 
 pub returns : goal.returns
-returns c = new-record _ refl refl c.no_place-p.ensures
+returns c = new-record _ refl refl refl
