@@ -1,5 +1,5 @@
 -- The record with one component more. Definitions only.
-use Rattle.std.specs.Prelude.{◌≡◌, Bool, true, [], ◌+◌, ◌<◌, ◌≤◌, set}
+use Rattle.std.specs.Prelude.{◌≡◌, Bool, [], ◌+◌, ◌<◌, ◌≤◌, set, Some}
 use Rattle.tag.specs.declared.Tag.{Tag as Label}
 use Rattle.tag.specs.Tags.{Tag}
 use Rattle.tag.specs.View.{bytes_of}
@@ -18,7 +18,7 @@ with_more m t c d = record {
   component_count = m.component_count + 1;
   lists = m.lists;
   list_count = m.list_count;
-  default = record { assigned = true; tag = d };
+  default = Some d;
 }
 
 -- so made, or refused with 15 where 64 components are held

@@ -1,79 +1,61 @@
 // Adding a component without inputs: `add_constant` and `add_function`; and one component more, which every adding ends with.
 #![tactic(auto)]
 
-ghost use Rattle.std.specs.Prelude.{◌≡◌, ◌<◌};
+ghost use Rattle.std.specs.Prelude.{◌≡◌, length};
 ghost use Rattle.model.specs.Edit.{add_constant, add_function};
 ghost use Rattle.edit.specs.Meets.{Meets};
-ghost use Rattle.adding.specs.Grown.{with_more, Grew, Plainly};
+ghost use Rattle.adding.specs.Grown.{Grew, Plainly};
 
 use component::model_component::Component;
 use edit::Edited;
-use held::find::Found;
-use model::implicit_model::{ComponentEntry, Model, Place};
-use model::model_error::ModelError;
+use held::find::find_component;
+use model::implicit_model::{ComponentEntry, Model};
+use model::model_error::{Answer, ModelError, Refusal};
 use tag::Tag;
 
-// The model with one component more, and with the default d.
-fn with_more(m: Model, t: Tag, c: Component, d: Tag) -> Model
-    requires { m.component_count < 64 }
-    ensures { result ≡ with_more m t c d }
+// One component more, and the default, where there is room. The tag is one that no component has.
+pub fn add_more(m: &mut Model, tag: Tag, component: Component, default: Tag) -> Answer
+    ensures { Grew m.old tag component default (record { answer = result; model = m.new }) }
 {
-    let k = m.component_count;
-    let p = Place {
-        assigned: true,
-        tag: d,
-    };
-    let mut n = m;
-    n.components[k] = ComponentEntry {
-        tag: t,
-        component: c,
-    };
-    n.component_count = k + 1;
-    n.default = p;
-    n
+    let row = m.component_count;
+    if 64 <= row {
+        return Err(Refusal::plain(ModelError::ComponentsFull));
+    }
+    m.components[row] = ComponentEntry { tag, component };
+    m.component_count = row + 1;
+    m.default = Some(default);
+    Ok(Some(tag))
 }
 
-// One component more, and the default d, where there is room. The tag is one that no component has.
-pub fn add_more(m: Model, t: Tag, c: Component, d: Tag) -> Edited
-    ensures { Grew m t c d result }
+// A component that takes no inputs, where its kind is the one asked for. That the table has its size is known of a model by value.
+fn add_plain(m: &mut Model, tag: &[u8], c: Component, fits: bool) -> Answer
+    ensures { length m.old.components ≡ 64 → Plainly tag.now c fits m.old (record { answer = result; model = m.new }) }
 {
-    if 64 <= m.component_count {
-        return edit::refuse_plain(m, ModelError::ComponentsFull);
-    }
-    edit::made(with_more(m, t, c, d), t)
-}
-
-// A component that takes no inputs, where its kind is the one asked for.
-fn add_plain(m: Model, tag: &[u8], c: Component, fits: bool) -> Edited
-    ensures { Plainly tag.now c fits m result }
-{
-    if !validity::is_valid(m) {
-        return edit::refuse_plain(m, ModelError::InvalidModel);
-    }
-    if 32 < tag.len() {
-        return edit::refuse_plain(m, ModelError::TagTooLong);
-    }
-    let t = tag::tag_of(tag);
+    validity::check(m)?;
+    let tag = Tag::try_from(tag)?;
     if !fits {
-        return edit::refuse(m, ModelError::ParameterDoesNotFit, t, 0);
+        return Err(Refusal::of(ModelError::ParameterDoesNotFit, tag));
     }
-    let f = held::find::find_component(m, t);
-    if let Found::At(_) = f {
-        return edit::refuse(m, ModelError::DuplicateTag, t, 0);
+    match find_component(m, tag) {
+        Some(_) => Err(Refusal::of(ModelError::DuplicateTag, tag)),
+        None => add_more(m, tag, c, tag),
     }
-    add_more(m, t, c, t)
 }
 
 pub fn add_constant(m: Model, tag: &[u8], value: f64) -> Edited
     ensures { Meets (add_constant tag.now value) m result }
 {
-    add_plain(m, tag, Component::Constant(value), true)
+    let mut model = m;
+    let answer = add_plain(&mut model, tag, Component::Constant(value), true);
+    Edited { answer, model }
 }
 
 // A sphere or a torus; another component is refused with 4.
 pub fn add_function(m: Model, tag: &[u8], c: Component) -> Edited
     ensures { Meets (add_function tag.now c) m result }
 {
-    let fits = component::kind::is_function(c);
-    add_plain(m, tag, c, fits)
+    let mut model = m;
+    let fits = c.is_function();
+    let answer = add_plain(&mut model, tag, c, fits);
+    Edited { answer, model }
 }

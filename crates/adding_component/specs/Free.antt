@@ -1,8 +1,7 @@
 -- The tag that `add_component` makes. Definitions only.
-use Rattle.std.specs.Prelude.{◌≡◌, ◌⊎◌, true, false}
+use Rattle.std.specs.Prelude.{◌≡◌, ◌⊎◌, true, Option, MatchOption}
 use Rattle.std.proofs.Math.Option.{none, some}
 use Rattle.tag.specs.declared.Tag.{Tag as Label}
-use Rattle.tag.specs.declared.numbered.Numbered.{Numbered}
 use Rattle.tag.specs.Tags.{Tag, overlong}
 use Rattle.tag.specs.View.{bytes_of, tag_fits}
 use Rattle.component.specs.declared.model_component.Component.{Component}
@@ -17,7 +16,7 @@ pub record Nameable (m : Record) (t : Label) : Type 0 where
   pub short : tag_fits t ≡ true
 
 -- the first free tag, if it fits
-pub record FreeTag (cs : Table Component) (t : Tag) (r : Numbered) : Type 0 where
-  pub free : r.fits ≡ true → free_tag cs t ≡ some (bytes_of r.tag)
-  pub short : r.fits ≡ true → tag_fits r.tag ≡ true
-  pub missed : r.fits ≡ false → (free_tag cs t ≡ none) ⊎ ((u : Tag) × (free_tag cs t ≡ some u) × (overlong u ≡ true))
+abbrev pub FreeTag : Table Component → Tag → Option Label → Type 0
+FreeTag cs t r =
+    MatchOption r ((free_tag cs t ≡ none) ⊎ ((u : Tag) × (free_tag cs t ≡ some u) × (overlong u ≡ true)))
+    (λ u. (free_tag cs t ≡ some (bytes_of u)) × (tag_fits u ≡ true))

@@ -1,6 +1,7 @@
 // Adding a component of any kind: `add_component`.
 #![tactic(auto)]
 
+ghost use Rattle.std.specs.Prelude.{◌≡◌, length};
 ghost use Rattle.tag.specs.View.{bytes_of};
 ghost use Rattle.model.specs.Edit.{add_component};
 ghost use Rattle.model.specs.View.{components_of};
@@ -11,63 +12,47 @@ use adding::add_more;
 use adding_operation::add_listed;
 use component::model_component::Component;
 use edit::Edited;
-use held::find::Found;
+use held::find::find_component;
 use input_rows::unassigned_row;
 use model::implicit_model::Model;
-use model::model_error::ModelError;
+use model::model_error::{Answer, ModelError, Refusal};
 use tag::Tag;
-use tag::numbered::Numbered;
 
-// The tag if it is free, else tag_1, tag_2 and on, first free; it does not fit where that one is too long.
-fn free_tag(m: Model, t: Tag) -> Numbered
-    requires { Nameable m t }
-    ensures { FreeTag (components_of m) (bytes_of t) result }
+// The tag if it is free, else tag_1, tag_2 and on, first free; none where that one is too long.
+fn free_tag(m: &Model, tag: Tag) -> Option<Tag>
+    requires { Nameable m.now tag }
+    ensures { FreeTag (components_of m.now) (bytes_of tag) result }
 {
-    let f = held::find::find_component(m, t);
-    if let Found::Nothing = f {
-        return Numbered { fits: true, tag: t };
+    if find_component(m, tag).is_none() {
+        return Some(tag);
     }
-    let mut left = held::find::components_held(m) + 1;
-    let mut k: usize = 1;
-    while 0 < left {
-        let u = tag::numbered::numbered_tag(t, k);
-        if !u.fits {
-            return u;
+    for k in 1..m.live_components().len() + 2 {
+        let numbered = tag.numbered(k)?;
+        if find_component(m, numbered).is_none() {
+            return Some(numbered);
         }
-        let s = u.tag;
-        let g = held::find::find_component(m, s);
-        if let Found::Nothing = g {
-            return u;
-        }
-        left -= 1;
-        k += 1;
     }
-    Numbered {
-        fits: false,
-        tag: t,
+    None
+}
+
+// The component added in the model itself, which a refusal leaves as it was. That the tables have their sizes is known of a model by value.
+fn add(m: &mut Model, tag: &[u8], c: Component) -> Answer
+    ensures { length m.old.components ≡ 64 → length m.old.lists ≡ 128 → Meets (add_component tag.now c) m.old (record { answer = result; model = m.new }) }
+{
+    validity::check(m)?;
+    let asked = Tag::try_from(tag)?;
+    let tag = free_tag(m, asked).ok_or(Refusal::of(ModelError::NumberedTagTooLong, asked))?;
+    if !c.is_operation() {
+        return add_more(m, tag, c, asked);
     }
+    add_listed(m, tag, c, unassigned_row(tag, c.input_count()), asked)
 }
 
 // The default becomes the tag asked for, also where a numbered one is made.
 pub fn add_component(m: Model, tag: &[u8], c: Component) -> Edited
     ensures { Meets (add_component tag.now c) m result }
 {
-    if !validity::is_valid(m) {
-        return edit::refuse_plain(m, ModelError::InvalidModel);
-    }
-    if 32 < tag.len() {
-        return edit::refuse_plain(m, ModelError::TagTooLong);
-    }
-    let t = tag::tag_of(tag);
-    let u = free_tag(m, t);
-    if !u.fits {
-        return edit::refuse(m, ModelError::NumberedTagTooLong, t, 0);
-    }
-    let s = u.tag;
-    if !component::kind::is_operation(c) {
-        return add_more(m, s, c, t);
-    }
-    let k = component::model_component::input_count(c);
-    let row = unassigned_row(s, k);
-    add_listed(m, s, c, row, t)
+    let mut model = m;
+    let answer = add(&mut model, tag, c);
+    Edited { answer, model }
 }

@@ -1,5 +1,5 @@
 -- A component added with its list. Definitions only.
-use Rattle.std.specs.Prelude.{◌≡◌, Bool, true, false, [], ◌+◌, ◌<◌, ◌≤◌, leb, set}
+use Rattle.std.specs.Prelude.{◌≡◌, Bool, true, false, [], ◌+◌, ◌<◌, ◌≤◌, ℕ, leb, set, Option, Some, None}
 use Rattle.tag.specs.declared.Tag.{Tag as Label}
 use Rattle.tag.specs.View.{bytes_of}
 use Rattle.component.specs.declared.model_component.Component.{Component}
@@ -7,8 +7,6 @@ use Rattle.model.specs.declared.implicit_model.InputList.{InputList}
 use Rattle.model.specs.declared.implicit_model.Model.{Model as Record}
 use Rattle.model.specs.Edit.{made}
 use Rattle.model.specs.View.{lists_of}
-use Rattle.held.specs.declared.find.Found.{Found}
-use Rattle.held.specs.declared.find.Found.TheVariants.{At, Nothing}
 use Rattle.held.specs.Search.{Sought}
 use Rattle.edit.specs.declared.Edited.{Edited}
 use Rattle.edit.specs.Ends.{Ends, Refused}
@@ -16,14 +14,14 @@ use Rattle.edit.specs.Rows.{with_list}
 use Rattle.adding.specs.Grown.{with_more}
 
 -- a new list is needed, and 128 exist
-abbrev pub no_room : Record → Found → Bool
-no_room m (At i) = false
-no_room m Nothing = leb 128 m.list_count
+abbrev pub no_room : Record → Option ℕ → Bool
+no_room m (Some i) = false
+no_room m None = leb 128 m.list_count
 
 -- the list over the one found, or after the others
-abbrev pub list_put : Record → InputList → Found → Record
-list_put m l (At i) = with_list m i l
-list_put m l Nothing = record {
+abbrev pub list_put : Record → InputList → Option ℕ → Record
+list_put m l (Some i) = with_list m i l
+list_put m l None = record {
   components = m.components;
   component_count = m.component_count;
   lists = set m.lists m.list_count l;
@@ -33,7 +31,7 @@ list_put m l Nothing = record {
 
 -- by what a search for the list of t finds: the component c under t, the default d and the list l, or refused with 16
 pub record Placed (m : Record) (t : Label) (c : Component) (l : InputList) (d : Label) (r : Edited) : Type 0 where
-  pub found : Found
+  pub found : Option ℕ
   pub sought : Sought (lists_of m) 128 (bytes_of t) found
   pub full : no_room m found ≡ true → Refused m 16 [] 0 r
   pub put : no_room m found ≡ false → Ends (made (bytes_of t)) (with_more (list_put m l found) t c d) r

@@ -8,56 +8,31 @@ ghost use Rattle.model.specs.Table.{any};
 ghost use Rattle.model.specs.Edit.{looked_at};
 ghost use Rattle.input_rows.specs.Inputs.{inputs_of, fitting, RowOf, Short, asked};
 
-use model::implicit_model::{InputList, Place};
-use tag::Tag;
+use model::implicit_model::InputList;
+use tag::{Tag, tag_of};
 
 // Whether a tag that is given and looked at is longer than 32 bytes.
 pub fn too_long(given: bool, n: usize, a: &[u8], b: &[u8], d: &[u8]) -> bool
     ensures { result ≡ any overlong (looked_at (inputs_of given n a.now b.now d.now)) }
 {
-    if !given {
-        return false;
-    }
-    if n < 1 {
-        return false;
-    }
-    if 32 < a.len() {
-        return true;
-    }
-    if n < 2 {
-        return false;
-    }
-    if 32 < b.len() {
-        return true;
-    }
-    if n < 3 {
-        return false;
-    }
-    32 < d.len()
+    given && [a, b, d].iter().take(n).any(|tag| 32 < tag.len())
 }
 
 // Whether as many inputs as the operation takes are given, or none.
 pub fn inputs_fit(given: bool, n: usize, k: usize) -> bool
     ensures { result ≡ fitting given n k }
 {
-    if given {
-        return n == k;
-    }
-    true
+    !given || n == k
 }
 
 // A list of k unassigned places, three at most.
 pub fn unassigned_row(t: Tag, k: usize) -> InputList
     ensures { k ≤ 3 → RowOf t (replicate k none) result }
 {
-    let p = Place {
-        assigned: false,
-        tag: t,
-    };
     InputList {
         tag: t,
         count: k,
-        places: [p, p, p],
+        places: [None; 3],
     }
 }
 
@@ -65,25 +40,10 @@ pub fn unassigned_row(t: Tag, k: usize) -> InputList
 fn given_row(t: Tag, k: usize, a: &[u8], b: &[u8], d: &[u8]) -> InputList
     ensures { Short k a.now b.now d.now → RowOf t (map some (take k (a.now ∷ b.now ∷ d.now ∷ []))) result }
 {
-    let x = tag::tag_of(a);
-    let y = tag::tag_of(b);
-    let z = tag::tag_of(d);
-    let p = Place {
-        assigned: true,
-        tag: x,
-    };
-    let q = Place {
-        assigned: true,
-        tag: y,
-    };
-    let s = Place {
-        assigned: true,
-        tag: z,
-    };
     InputList {
         tag: t,
         count: k,
-        places: [p, q, s],
+        places: [Some(tag_of(a)), Some(tag_of(b)), Some(tag_of(d))],
     }
 }
 
@@ -92,7 +52,8 @@ pub fn operation_row(t: Tag, given: bool, k: usize, a: &[u8], b: &[u8], d: &[u8]
     ensures { k ≤ 3 → (given ≡ true → Short k a.now b.now d.now) → RowOf t (asked given k a.now b.now d.now) result }
 {
     if given {
-        return given_row(t, k, a, b, d);
+        given_row(t, k, a, b, d)
+    } else {
+        unassigned_row(t, k)
     }
-    unassigned_row(t, k)
 }

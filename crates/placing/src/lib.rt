@@ -7,25 +7,25 @@ ghost use Rattle.edit.specs.Ends.{Ends};
 ghost use Rattle.edit.specs.Rows.{with_list};
 ghost use Rattle.placing.specs.Placing.{placed_at};
 
-use edit::Edited;
+use edit::rows::with_list;
 use model::implicit_model::{InputList, Model, Place};
+use model::model_error::Answer;
 
 // The list with one place replaced; as it was, where there is no such place.
-fn placed(l: InputList, i: usize, p: Place) -> InputList
-    ensures { result ≡ placed_at l i p }
+fn placed(l: InputList, index: usize, place: Place) -> InputList
+    ensures { result ≡ placed_at l index place }
 {
-    if 3 <= i {
-        return l;
+    let mut list = l;
+    if index < list.places.len() {
+        list.places[index] = place;
     }
-    let mut k = l;
-    k.places[i] = p;
-    k
+    list
 }
 
-// The edit is done: the list at a row is this one, with one place replaced.
-pub fn place(m: Model, row: usize, l: InputList, index: usize, p: Place) -> Edited
-    ensures { Ends done (with_list m row (placed_at l index p)) result }
+// The edit is done: the list at a row is this one, with one place replaced. Where there is no such row, the model is as it was.
+pub fn place(m: &mut Model, row: usize, l: InputList, index: usize, to: Place) -> Answer
+    ensures { Ends done (with_list m.old row (placed_at l index to)) (record { answer = result; model = m.new }) }
 {
-    let k = placed(l, index, p);
-    edit::done(edit::rows::with_list(m, row, k))
+    *m = with_list(*m, row, placed(l, index, to));
+    Ok(None)
 }

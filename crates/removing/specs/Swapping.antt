@@ -3,11 +3,10 @@ use Rattle.std.specs.Prelude.{◌≡◌, List, map, T}
 use Rattle.tag.specs.Tags.{Tag}
 use Rattle.model.specs.declared.implicit_model.InputList.{InputList}
 use Rattle.model.specs.declared.implicit_model.Model.{Model as Record}
-use Rattle.model.specs.declared.implicit_model.Place.{Place as PlaceRecord}
 use Rattle.model.specs.Table.{each}
 use Rattle.model.specs.Model.{Place}
 use Rattle.model.specs.Edit.{swap}
-use Rattle.model.specs.View.{place_of, rows, list_of, lists_of, every, place_fits, list_fits}
+use Rattle.model.specs.View.{PlaceRecord, place_of, rows, list_of, lists_of, every, place_fits, list_fits}
 
 -- a place that names t is now `by`, and what fitted still does
 pub record PlaceSwapped (t : Tag) (by p r : PlaceRecord) : Type 0 where

@@ -9,28 +9,20 @@ use tag::Tag;
 pub fn place_swapped(p: Place, t: Tag, by: Place) -> Place
     ensures { PlaceSwapped (bytes_of t) by p result }
 {
-    if p.assigned {
-        let u = p.tag;
-        if tag::same_tag(u, t) {
-            return by;
-        }
-        return p;
+    match p {
+        Some(u) if u == t => by,
+        _ => p,
     }
-    p
 }
 
 // A list, with each place replaced that names the tag.
 pub fn list_swapped(l: InputList, t: Tag, by: Place) -> InputList
     ensures { ListSwapped (bytes_of t) by l result }
 {
-    let places = held::find::places_held(l);
+    let places = l.live_places().len();
     let mut w = l;
-    let mut i: usize = 0;
-    while i < places {
-        let p = w.places[i];
-        let q = place_swapped(p, t, by);
-        w.places[i] = q;
-        i += 1;
+    for i in 0..places {
+        w.places[i] = place_swapped(w.places[i], t, by);
     }
     w
 }
@@ -39,17 +31,11 @@ pub fn list_swapped(l: InputList, t: Tag, by: Place) -> InputList
 pub fn places_swapped(m: Model, t: Tag, by: Place) -> Model
     ensures { PlacesSwapped (bytes_of t) by m result }
 {
-    let lists = held::find::lists_held(m);
-    let p = m.default;
-    let d = place_swapped(p, t, by);
+    let lists = m.live_lists().len();
     let mut w = m;
-    w.default = d;
-    let mut i: usize = 0;
-    while i < lists {
-        let l = w.lists[i];
-        let k = list_swapped(l, t, by);
-        w.lists[i] = k;
-        i += 1;
+    w.default = place_swapped(m.default, t, by);
+    for i in 0..lists {
+        w.lists[i] = list_swapped(w.lists[i], t, by);
     }
     w
 }

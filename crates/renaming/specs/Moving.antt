@@ -1,5 +1,5 @@
 -- A component under another tag, and what renaming changes in the record of a model. Definitions only.
-use Rattle.std.specs.Prelude.{true, [], ℕ, get_or}
+use Rattle.std.specs.Prelude.{[], ℕ, get_or, Some}
 use Rattle.std.specs.Float.{nan}
 use Rattle.tag.specs.declared.Tag.{Tag as Label}
 use Rattle.tag.specs.View.{bytes_of}
@@ -22,4 +22,4 @@ entry_at m i = get_or m.components i (record { tag = record { bytes = []; len = 
 pub record TagMoved (m : Record) (i : ℕ) (t u : Label) (r : Record) : Type 0 where
   pub lists : Record
   pub moved : Movable m t u → ListMoved m (bytes_of t) (bytes_of u) lists
-  pub places : PlacesSwapped (bytes_of t) (record { assigned = true; tag = u }) (with_entry lists i (entry_under (entry_at m i) u)) r
+  pub places : PlacesSwapped (bytes_of t) (Some u) (with_entry lists i (entry_under (entry_at m i) u)) r

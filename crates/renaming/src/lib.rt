@@ -1,65 +1,52 @@
 // Renaming: `rename_component`.
 #![tactic(auto)]
 
-ghost use Rattle.std.specs.Prelude.{◌≡◌, ◌<◌};
+ghost use Rattle.std.specs.Prelude.{◌<◌};
 ghost use Rattle.model.specs.Edit.{rename_component};
 ghost use Rattle.edit.specs.Meets.{Meets};
-ghost use Rattle.renaming.specs.Moving.{entry_under, TagMoved};
+ghost use Rattle.renaming.specs.Moving.{TagMoved};
 
 use edit::Edited;
-use held::find::Found;
-use model::implicit_model::{ComponentEntry, Model, Place};
-use model::model_error::ModelError;
+use edit::rows::with_entry;
+use held::find::find_component;
+use list_moving::list_moved;
+use model::implicit_model::{ComponentEntry, Model};
+use model::model_error::{Answer, ModelError, Refusal};
+use removing::swapping::places_swapped;
 use tag::Tag;
-
-// The component under another tag.
-fn entry_under(e: ComponentEntry, u: Tag) -> ComponentEntry
-    ensures { result ≡ entry_under e u }
-{
-    let c = e.component;
-    ComponentEntry {
-        tag: u,
-        component: c,
-    }
-}
 
 // What renaming changes: the component at a position and its list are under the new tag, and each place that named the old one names the new.
 fn tag_moved(m: Model, i: usize, t: Tag, u: Tag) -> Model
     requires { i < 64 }
     ensures { TagMoved m i t u result }
 {
-    let named = Place {
-        assigned: true,
+    let entry = ComponentEntry {
         tag: u,
+        ..m.components[i]
     };
-    let e = m.components[i];
-    let c = entry_under(e, u);
-    let k = list_moving::list_moved(m, t, u);
-    let n = edit::rows::with_entry(k, i, c);
-    removing::swapping::places_swapped(n, t, named)
+    let moved = with_entry(list_moved(m, t, u), i, entry);
+    places_swapped(moved, t, Some(u))
+}
+
+// The component renamed in the model itself, which a refusal leaves as it was.
+fn rename(m: &mut Model, old: &[u8], new: &[u8]) -> Answer
+    ensures { Meets (rename_component old.now new.now) m.old (record { answer = result; model = m.new }) }
+{
+    validity::check(m)?;
+    let old = Tag::try_from(old)?;
+    let new = Tag::try_from(new)?;
+    if find_component(m, new).is_some() {
+        return Err(Refusal::of(ModelError::DuplicateTag, new));
+    }
+    let i = find_component(m, old).ok_or(Refusal::of(ModelError::MissingTag, old))?;
+    *m = tag_moved(*m, i, old, new);
+    Ok(Some(new))
 }
 
 pub fn rename_component(m: Model, old: &[u8], new: &[u8]) -> Edited
     ensures { Meets (rename_component old.now new.now) m result }
 {
-    if !validity::is_valid(m) {
-        return edit::refuse_plain(m, ModelError::InvalidModel);
-    }
-    if 32 < old.len() {
-        return edit::refuse_plain(m, ModelError::TagTooLong);
-    }
-    if 32 < new.len() {
-        return edit::refuse_plain(m, ModelError::TagTooLong);
-    }
-    let t = tag::tag_of(old);
-    let u = tag::tag_of(new);
-    let f = held::find::find_component(m, u);
-    if let Found::At(_) = f {
-        return edit::refuse(m, ModelError::DuplicateTag, u, 0);
-    }
-    let g = held::find::find_component(m, t);
-    let Found::At(i) = g else {
-        return edit::refuse(m, ModelError::MissingTag, t, 0);
-    };
-    edit::made(tag_moved(m, i, t, u), u)
+    let mut model = m;
+    let answer = rename(&mut model, old, new);
+    Edited { answer, model }
 }

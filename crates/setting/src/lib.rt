@@ -4,39 +4,33 @@
 ghost use Rattle.model.specs.Edit.{set_parameter};
 ghost use Rattle.edit.specs.Meets.{Meets};
 
-use component::model_component::Setting;
 use component::parameter::Data;
 use edit::Edited;
-use held::find::Found;
+use held::find::find_component;
 use model::implicit_model::{ComponentEntry, Model};
-use model::model_error::ModelError;
+use model::model_error::{Answer, ModelError, Refusal};
+use tag::Tag;
+
+// The parameter set in the model itself, which a refusal leaves as it was.
+fn set(m: &mut Model, tag: &[u8], name: &[u8], data: Data) -> Answer
+    ensures { Meets (set_parameter tag.now name.now «data») m.old (record { answer = result; model = m.new }) }
+{
+    validity::check(m)?;
+    let tag = Tag::try_from(tag)?;
+    let i = find_component(m, tag).ok_or(Refusal::of(ModelError::MissingTag, tag))?;
+    match parameter_setting::set_parameter(m.components[i].component, name, data) {
+        Ok(component) => {
+            m.components[i] = ComponentEntry { tag, component };
+            Ok(None)
+        }
+        Err(e) => Err(Refusal::of(e.into(), tag)),
+    }
+}
 
 pub fn set_parameter(m: Model, tag: &[u8], name: &[u8], data: Data) -> Edited
     ensures { Meets (set_parameter tag.now name.now «data») m result }
 {
-    if !validity::is_valid(m) {
-        return edit::refuse_plain(m, ModelError::InvalidModel);
-    }
-    if 32 < tag.len() {
-        return edit::refuse_plain(m, ModelError::TagTooLong);
-    }
-    let t = tag::tag_of(tag);
-    let f = held::find::find_component(m, t);
-    let Found::At(i) = f else {
-        return edit::refuse(m, ModelError::MissingTag, t, 0);
-    };
-    let e = m.components[i];
-    let c = e.component;
-    let s = parameter_setting::set_parameter(c, name, data);
-    match s {
-        Setting::DoesNotFit => edit::refuse(m, ModelError::ParameterDoesNotFit, t, 0),
-        Setting::TooNear => edit::refuse(m, ModelError::ParameterTooNear, t, 0),
-        Setting::Changed(k) => {
-            let row = ComponentEntry {
-                tag: t,
-                component: k,
-            };
-            edit::done(edit::rows::with_entry(m, i, row))
-        }
-    }
+    let mut model = m;
+    let answer = set(&mut model, tag, name, data);
+    Edited { answer, model }
 }

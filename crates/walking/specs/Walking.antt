@@ -1,5 +1,5 @@
 -- What the walk's code holds: the rows of lists that wait in line, and a mark for each row that has been in it. Definitions only.
-use Rattle.std.specs.Prelude.{◌≡◌, Bool, true, false, List, [], ◌∷◌, ℕ, suc, ◌+◌, ◌<◌, length, get_or, set, replicate}
+use Rattle.std.specs.Prelude.{◌≡◌, Bool, true, false, List, [], ◌∷◌, ℕ, suc, ◌+◌, ◌<◌, length, get_or, set, replicate, Result, MatchResult}
 use Rattle.std.proofs.Math.Option.{none}
 use Rattle.tag.specs.Tags.{Tag}
 use Rattle.model.specs.declared.implicit_model.Model.{Model as Record}
@@ -8,8 +8,8 @@ use Rattle.model.specs.Model.{Place}
 use Rattle.model.specs.View.{lists_of, view, passes}
 use Rattle.model.specs.Walk.{Walked, clear, met, gapped, walk_from}
 use Rattle.walking.specs.declared.Line.{Line}
-use Rattle.walking.specs.declared.Ended.{Ended}
-use Rattle.walking.specs.declared.Ended.TheVariants.{Clear, Met, Gap}
+use Rattle.walking.specs.declared.Blocked.{Blocked}
+use Rattle.walking.specs.declared.Blocked.TheVariants.{Target, Gap}
 
 -- row r of the table is t's, and holds a
 pub record Row {A : Type 0} (table : Table A) (r : ℕ) (t : Tag) (a : A) : Type 0 where
@@ -53,18 +53,21 @@ pub record Walkable (m : Record) (target from : ℕ) : Type 0 where
   pub ends : target < length (lists_of m)
   pub starts : from < length (lists_of m)
 
+-- why the walk is not clear
+abbrev pub Stops : Table (List Place) → Walked → Blocked → Type 0
+Stops lists w Target = w ≡ met
+Stops lists w (Gap r i) = (t : Tag) × (l : List Place) × Row lists r t l × (w ≡ gapped t i)
+
 -- what the walk's ending says
-pub data Says (lists : Table (List Place)) : Ended → Walked → Type 0 where
-  says-clear : Says lists Clear clear
-  says_met : Says lists Met met
-  says_gap : {r i : ℕ} {t : Tag} {l : List Place} → Row lists r t l → Says lists (Gap r i) (gapped t i)
+abbrev pub Says : {A : Type 0} → Table (List Place) → Result A Blocked → Walked → Type 0
+Says lists r w = MatchResult r (λ _. w ≡ clear) (Stops lists w)
 
 -- the tag of a row
 abbrev pub tag_at : Table (List Place) → ℕ → Tag
 tag_at lists r = (get_or lists r ([], [])).0
 
 -- the walk from the one row's tag to the other's
-abbrev pub Walks : Record → ℕ → ℕ → Ended → Type 0
+abbrev pub Walks : {A : Type 0} → Record → ℕ → ℕ → Result A Blocked → Type 0
 Walks m target from r = Says (lists_of m) r (walk_from (view m) (tag_at (lists_of m) target) (tag_at (lists_of m) from))
 
 -- a model that 7 lets pass, and one of its lists
@@ -73,5 +76,5 @@ pub record Startable (m : Record) (target : ℕ) : Type 0 where
   pub ends : target < length (lists_of m)
 
 -- the walk from a tag to the row's
-abbrev pub Wires : Record → ℕ → Tag → Ended → Type 0
+abbrev pub Wires : {A : Type 0} → Record → ℕ → Tag → Result A Blocked → Type 0
 Wires m target source r = Says (lists_of m) r (walk_from (view m) (tag_at (lists_of m) target) source)

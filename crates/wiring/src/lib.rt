@@ -7,65 +7,49 @@ ghost use Rattle.edit.specs.Meets.{Meets};
 ghost use Rattle.wiring.specs.Wiring.{Held};
 
 use edit::Edited;
-use held::find::Found;
-use model::implicit_model::{Model, Place};
-use model::model_error::ModelError;
+use held::find::{find_component, find_list};
+use model::implicit_model::Model;
+use model::model_error::{Answer, ModelError, Refusal};
 use tag::Tag;
-use walking::{Ended, walk_from};
+use walking::{Blocked, walk_from};
 
 // The wire, where both tags are held: the target has a list with that place, and the walk from the source meets neither the target nor a gap.
-fn wire(m: Model, t: Tag, s: Tag, index: usize) -> Edited
-    requires { Held m t s index }
-    ensures { Meets (add_input (bytes_of t) (bytes_of s) index) m result }
+fn wire(m: &mut Model, target: Tag, source: Tag, index: usize) -> Answer
+    requires { Held m.old target source index }
+    ensures { Meets (add_input (bytes_of target) (bytes_of source) index) m.old (record { answer = result; model = m.new }) }
 {
-    let h = held::find::find_list(m, t);
-    let Found::At(i) = h else {
-        return edit::refuse(m, ModelError::MissingTag, t, 0);
-    };
-    let l = m.lists[i];
-    let n = held::find::places_held(l);
-    if n <= index {
-        return edit::refuse(m, ModelError::InputIndexOutOfRange, t, index);
+    let row = find_list(m, target).ok_or(Refusal::of(ModelError::MissingTag, target))?;
+    let list = m.lists[row];
+    if list.live_places().len() <= index {
+        return Err(Refusal::at(ModelError::InputIndexOutOfRange, target, index));
     }
-    let e = walk_from(m, i, s);
-    match e {
-        Ended::Met => edit::refuse(m, ModelError::CyclicDependency, t, 0),
-        Ended::Gap(r, k) => {
-            let o = m.lists[r];
-            let u = o.tag;
-            edit::refuse(m, ModelError::MissingInput, u, k)
-        }
-        Ended::Clear => {
-            let p = Place {
-                assigned: true,
-                tag: s,
-            };
-            placing::place(m, i, l, index, p)
-        }
+    match walk_from(m, row, source) {
+        Ok(()) => placing::place(m, row, list, index, Some(source)),
+        Err(Blocked::Target) => Err(Refusal::of(ModelError::CyclicDependency, target)),
+        Err(Blocked::Gap(row, k)) => Err(Refusal::at(
+            ModelError::MissingInput,
+            m.lists[row].tag,
+            k,
+        )),
     }
+}
+
+// The input added in the model itself, which a refusal leaves as it was.
+fn add(m: &mut Model, target: &[u8], source: &[u8], index: usize) -> Answer
+    ensures { Meets (add_input target.now source.now index) m.old (record { answer = result; model = m.new }) }
+{
+    validity::check(m)?;
+    let target = Tag::try_from(target)?;
+    let source = Tag::try_from(source)?;
+    find_component(m, target).ok_or(Refusal::of(ModelError::MissingTag, target))?;
+    find_component(m, source).ok_or(Refusal::of(ModelError::MissingTag, source))?;
+    wire(m, target, source, index)
 }
 
 pub fn add_input(m: Model, target: &[u8], source: &[u8], index: usize) -> Edited
     ensures { Meets (add_input target.now source.now index) m result }
 {
-    if !validity::is_valid(m) {
-        return edit::refuse_plain(m, ModelError::InvalidModel);
-    }
-    if 32 < target.len() {
-        return edit::refuse_plain(m, ModelError::TagTooLong);
-    }
-    if 32 < source.len() {
-        return edit::refuse_plain(m, ModelError::TagTooLong);
-    }
-    let t = tag::tag_of(target);
-    let s = tag::tag_of(source);
-    let f = held::find::find_component(m, t);
-    if let Found::Nothing = f {
-        return edit::refuse(m, ModelError::MissingTag, t, 0);
-    }
-    let g = held::find::find_component(m, s);
-    if let Found::Nothing = g {
-        return edit::refuse(m, ModelError::MissingTag, s, 0);
-    }
-    wire(m, t, s, index)
+    let mut model = m;
+    let answer = add(&mut model, target, source, index);
+    Edited { answer, model }
 }

@@ -1,12 +1,12 @@
 -- The record with one component more, and the check for room before it. Assumes nothing.
 use mathlib.Core.Path.{◌≡◌, sym, ap, subst}
-use mathlib.Core.Bool.{true}
 use mathlib.Core.List.{List}
 use mathlib.Core.Option.{none, some}
 use Prim.Native.Nat.{ℕ, ◌+◌, ◌<◌, ◌≤◌}
 use native.Mathlib.Omega.{arith}
 use native.Mathlib.Decide.{dec_le}
 use lib.ListN.{length, set}
+use Rattle.std.specs.Prelude.{Some}
 use Rattle.tag.specs.declared.Tag.{Tag as Label}
 use Rattle.tag.specs.Tags.{Tag, empty}
 use Rattle.tag.specs.View.{tag_fits, Labelled}
@@ -34,7 +34,7 @@ grown m u c e ls n = record {
   component_count = m.component_count + 1;
   lists = ls;
   list_count = n;
-  default = record { assigned = true; tag = e };
+  default = Some e;
 }
 
 module _ (m : Record) (g : Standing m) (size : length m.components ≡ 64) (k : m.component_count < 64) {t : Tag} {u : Label} (lt : Labelled t u) {a : Tag} {e : Label} (la : Labelled a e)

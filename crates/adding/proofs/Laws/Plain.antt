@@ -2,18 +2,17 @@
 use mathlib.Core.Path.{◌≡◌, refl, sym, ap, subst}
 use mathlib.Core.Bool.{Bool, true, false, not}
 use mathlib.Core.List.{[]}
-use Prim.Native.Nat.{ℕ, ◌<◌, ◌≤◌}
-use lib.ListN.{length, take}
+use Prim.Native.Nat.{ℕ}
+use lib.ListN.{length}
 use lib.Ieee.{Float}
 use Rattle.tag.specs.declared.Tag.{Tag as Label}
 use Rattle.tag.specs.Tags.{Tag, empty, overlong}
-use Rattle.tag.specs.View.{bytes_of, Labelled, Made}
+use Rattle.tag.specs.View.{bytes_of, Labelled}
 use Rattle.component.specs.Kind.{is_function}
 use Rattle.component.specs.declared.model_component.Component.{Component}
 use Rattle.component.specs.declared.model_component.Component.TheVariants.{Constant}
 use Rattle.model.specs.declared.implicit_model.Model.{Model as Record}
-use Rattle.held.specs.declared.find.Found.{Found}
-use Rattle.held.specs.declared.find.Found.TheVariants.{At, Nothing}
+use Rattle.std.specs.Prelude.{Option, Some, None}
 use Rattle.model.specs.Table.{held}
 use Rattle.model.specs.Model.{Model}
 use Rattle.model.specs.Edit.{add_constant, add_function, Outcome, edit, add_plain}
@@ -23,7 +22,7 @@ use Rattle.held.proofs.Laws.Standing.{standing}
 use Rattle.edit.specs.declared.Edited.{Edited}
 use Rattle.edit.specs.Ends.{Refused}
 use Rattle.edit.proofs.Laws.Step.{Step, skip, stop, meets_on, meets_7}
-use Rattle.edit.proofs.Laws.Tests.{long, short, labelled, carrying, taken, free, missing, sought_by}
+use Rattle.edit.proofs.Laws.Tests.{carrying, taken, free, missing, sought_by}
 use Rattle.adding.specs.Grown.{Grew, Plainly}
 use Rattle.adding.proofs.Laws.Grown.{grew}
 
@@ -35,28 +34,25 @@ module _ (m : Record) (t : Tag) (c : Component) (ok : Bool) (r : Edited) where
     on : Step (add_plain (view m) t c ok) m r → Plainly t c ok m r
     on s e q = meets_on v (subst (λ (o : Outcome). Step o m r) (sym q) s)
 
-    pub plain_1 : 32 < length t → Refused m 1 [] 0 r → Plainly t c ok m r
+    pub plain_1 : overlong t ≡ true → Refused m 1 [] 0 r → Plainly t c ok m r
     unfolding add_plain
-    plain_1 h z = on (stop (overlong t) 1 empty 0 _ (long t h) z)
+    plain_1 h z = on (stop (overlong t) 1 empty 0 _ h z)
 
-    module _ (st : length t ≤ 32) (u : Label) (mu : Made (take 32 t) u) where
-      lt : Labelled t u
-      lt = labelled st mu
-
+    module _ (st : overlong t ≡ false) (u : Label) (lt : Labelled t u) where
       pub plain_4 : ok ≡ false → Refused m 4 (bytes_of u) 0 r → Plainly t c ok m r
       unfolding add_plain
-      plain_4 h z = on (skip (overlong t) 1 empty 0 (short t st) (stop (not ok) 4 t 0 _ (ap not h) (carrying lt z)))
+      plain_4 h z = on (skip (overlong t) 1 empty 0 st (stop (not ok) 4 t 0 _ (ap not h) (carrying lt z)))
 
-      module _ (fits : ok ≡ true) (f : Found) (p : Sought (components_of m) 64 (bytes_of u) f) where
-        pub plain_11 : {i : ℕ} → f ≡ At i → Refused m 11 (bytes_of u) 0 r → Plainly t c ok m r
+      module _ (fits : ok ≡ true) (f : Option ℕ) (p : Sought (components_of m) 64 (bytes_of u) f) where
+        pub plain_11 : {i : ℕ} → f ≡ Some i → Refused m 11 (bytes_of u) 0 r → Plainly t c ok m r
         unfolding add_plain view
         plain_11 e z =
-            on (skip (overlong t) 1 empty 0 (short t st) (skip (not ok) 4 t 0 (ap not fits) (stop (held t (components_of m)) 11 t 0 _ (taken (sought_by lt p) e) (carrying lt z))))
+            on (skip (overlong t) 1 empty 0 st (skip (not ok) 4 t 0 (ap not fits) (stop (held t (components_of m)) 11 t 0 _ (taken (sought_by lt p) e) (carrying lt z))))
 
-        pub plain_more : f ≡ Nothing → length m.components ≡ 64 → Grew m u c u r → Plainly t c ok m r
+        pub plain_more : f ≡ None → length m.components ≡ 64 → Grew m u c u r → Plainly t c ok m r
         unfolding add_plain view
         plain_more n size z =
-            on (skip (overlong t) 1 empty 0 (short t st) (skip (not ok) 4 t 0 (ap not fits) (skip (held t (components_of m)) 11 t 0 (free (sought_by lt p) n)
+            on (skip (overlong t) 1 empty 0 st (skip (not ok) 4 t 0 (ap not fits) (skip (held t (components_of m)) 11 t 0 (free (sought_by lt p) n)
             (grew m (standing m v) size lt lt c (missing (sought_by lt p) n) z))))
 
 -- the two edits that are defined so

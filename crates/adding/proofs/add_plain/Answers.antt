@@ -1,26 +1,26 @@
 -- `adding::add_plain` meets its contract. Assumes nothing.
-use mathlib.Core.Path.{◌≡◌, sym, ◌∙◌}
-use lib.ListN.{length}
+use Rattle.edit.proofs.Laws.Step.{stays, handed_on, becomes}
 use Rattle.adding.proofs.Laws.Plain.{plain_7, plain_1, plain_4, plain_11, plain_more}
 use Rattle.adding.proofs.add_plain.Goals as goal
 
-pub returns-then-not-is_valid : goal.returns-then-not-is_valid
-returns-then-not-is_valid c =
-    let a = c.args in plain_7 a.m a.tag.now a.c a.fits _ (sym c.is_valid.ensures ∙ c.if-not-is_valid.true) c.refuse_plain.ensures
+pub returns-in_err-check : goal.returns-in_err-check
+returns-in_err-check c size =
+    let a = c.args in plain_7 a.m.now a.tag.now a.c a.fits _ c.in_err-check.ensures.0 (handed_on _ c.from_residual.ensures.1 c.in_err-check.ensures.1)
 
-pub returns-then-tag-gt32 : goal.returns-then-tag-gt32
-returns-then-tag-gt32 c =
-    let a = c.args in plain_1 a.m a.tag.now a.c a.fits _ (sym c.is_valid.ensures ∙ c.if-not-is_valid.false) c.if-tag-gt32.true c.refuse_plain-then-tag-gt32.ensures
+pub returns-in_err-tag : goal.returns-in_err-tag
+returns-in_err-tag c size =
+    let a = c.args in plain_1 a.m.now a.tag.now a.c a.fits _ c.in_ok-check.ensures c.in_err-tag.ensures (becomes c.from_residual-in_err-tag.ensures.1)
 
 pub returns-then-not-fits : goal.returns-then-not-fits
-returns-then-not-fits c =
-    let a = c.args in plain_4 a.m a.tag.now a.c a.fits _ (sym c.is_valid.ensures ∙ c.if-not-is_valid.false) c.if-tag-gt32.false _ c.tag_of-t.ensures c.if-not-fits.true c.refuse.ensures
+returns-then-not-fits c size =
+    let a = c.args in plain_4 a.m.now a.tag.now a.c a.fits _ c.in_ok-check.ensures c.in_ok-tag.ensures.0 _ c.in_ok-tag.ensures.1.labelled c.if-not-fits.true (stays c.of.ensures)
 
-pub returns-in-At : goal.returns-in-At
-returns-in-At c =
-    let a = c.args in plain_11 a.m a.tag.now a.c a.fits _ (sym c.is_valid.ensures ∙ c.if-not-is_valid.false) c.if-tag-gt32.false _ c.tag_of-t.ensures c.if-not-fits.false _ c.find_component-f.ensures c.in-At.is c.refuse-in-At.ensures
+pub returns-in-Some : goal.returns-in-Some
+returns-in-Some c size =
+    let a = c.args in
+    plain_11 a.m.now a.tag.now a.c a.fits _ c.in_ok-check.ensures c.in_ok-tag.ensures.0 _ c.in_ok-tag.ensures.1.labelled c.if-not-fits.false _ c.find_component.ensures c.in-Some.is (stays c.of-in-Some.ensures)
 
-pub returns : goal.returns
-returns c =
-    let size : length c.args.m.components ≡ 64 = c.well_formed.0.1.1.0.1.0.1 in
-    let a = c.args in plain_more a.m a.tag.now a.c a.fits _ (sym c.is_valid.ensures ∙ c.if-not-is_valid.false) c.if-tag-gt32.false _ c.tag_of-t.ensures c.if-not-fits.false _ c.find_component-f.ensures c.in_default.is (size) c.add_more.ensures
+pub returns-in-None : goal.returns-in-None
+returns-in-None c size =
+    let a = c.args in
+    plain_more a.m.now a.tag.now a.c a.fits _ c.in_ok-check.ensures c.in_ok-tag.ensures.0 _ c.in_ok-tag.ensures.1.labelled c.if-not-fits.false _ c.find_component.ensures c.in-None.is size c.add_more.ensures

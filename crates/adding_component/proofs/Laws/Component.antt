@@ -3,14 +3,13 @@ use mathlib.Core.Path.{◌≡◌, refl, sym, ◌∙◌, ap, subst}
 use mathlib.Core.Logic.{◌⊎◌, inl, inr}
 use mathlib.Core.Bool.{Bool, true, false, not, cond}
 use mathlib.Core.List.{[]}
-use mathlib.Core.Option.{Option, none, some}
-use Prim.Native.Nat.{◌<◌, ◌≤◌}
+use mathlib.Core.Option.{Option as Maybe, none, some}
 use lib.Dec.{T}
-use lib.ListN.{length, take, replicate}
+use lib.ListN.{length, replicate}
 use Rattle.tag.specs.declared.Tag.{Tag as Label}
-use Rattle.tag.specs.declared.numbered.Numbered.{Numbered}
+use Rattle.std.specs.Prelude.{Option, Some, None}
 use Rattle.tag.specs.Tags.{Tag, empty, overlong}
-use Rattle.tag.specs.View.{bytes_of, tag_fits, Labelled, Made}
+use Rattle.tag.specs.View.{bytes_of, tag_fits, Labelled}
 use Rattle.component.specs.Kind.{is_operation}
 use Rattle.component.specs.Value.{input_count}
 use Rattle.component.specs.declared.model_component.Component.{Component}
@@ -27,7 +26,7 @@ use Rattle.edit.specs.declared.Edited.{Edited}
 use Rattle.edit.specs.Meets.{Meets}
 use Rattle.edit.specs.Ends.{Refused}
 use Rattle.edit.proofs.Laws.Step.{Step, refusal, skip, stop, meets_on}
-use Rattle.edit.proofs.Laws.Tests.{long, short, labelled, carrying}
+use Rattle.edit.proofs.Laws.Tests.{carrying}
 use Rattle.adding.specs.Grown.{Grew}
 use Rattle.adding.proofs.Laws.Grown.{grew}
 use Rattle.input_rows.specs.Inputs.{RowOf}
@@ -48,50 +47,50 @@ module _ (m : Record) (t : Tag) (c : Component) (r : Edited) (v : passes m ≡ t
   unfolding edit
   on s = meets_on v s
 
-  pub add_1 : 32 < length t → Refused m 1 [] 0 r → Meets (add_component t c) m r
+  pub add_1 : overlong t ≡ true → Refused m 1 [] 0 r → Meets (add_component t c) m r
   unfolding add_any
-  add_1 h z = on (stop (overlong t) 1 empty 0 _ (long t h) z)
+  add_1 h z = on (stop (overlong t) 1 empty 0 _ h z)
 
-  module _ (st : length t ≤ 32) (x : Label) (mx : Made (take 32 t) x) (n : Numbered) (f : FreeTag (components_of m) (bytes_of x) n) where
-    lt : Labelled t x
-    lt = labelled st mx
-
-    into : (o : Option Tag) → free_tag (components_of m) (bytes_of x) ≡ o → Step (add_free (view m) t c o) m r → Meets (add_component t c) m r
+  module _ (st : overlong t ≡ false) (x : Label) (lt : Labelled t x) (n : Option Label) (f : FreeTag (components_of m) (bytes_of x) n) where
+    into : (o : Maybe Tag) → free_tag (components_of m) (bytes_of x) ≡ o → Step (add_free (view m) t c o) m r → Meets (add_component t c) m r
     unfolding add_any view
     into o e s =
-        on (skip (overlong t) 1 empty 0 (short t st)
-        (subst (λ (p : Option Tag). Step (add_free (view m) t c p) m r) (sym (ap (free_tag (components_of m)) (sym lt.bytes) ∙ e)) s))
+        on (skip (overlong t) 1 empty 0 st
+        (subst (λ (p : Maybe Tag). Step (add_free (view m) t c p) m r) (sym (ap (free_tag (components_of m)) (sym lt.bytes) ∙ e)) s))
 
-    pub add_17 : n.fits ≡ false → Refused m 17 (bytes_of x) 0 r → Meets (add_component t c) m r
-    add_17 h z = go (f.missed h)
+    pub add_17 : n ≡ None → Refused m 17 (bytes_of x) 0 r → Meets (add_component t c) m r
+    add_17 h z = go (subst (FreeTag (components_of m) (bytes_of x)) h f)
       where
         go : (free_tag (components_of m) (bytes_of x) ≡ none) ⊎ ((u : Tag) × (free_tag (components_of m) (bytes_of x) ≡ some u) × (overlong u ≡ true)) → Meets (add_component t c) m r
         go (inl e) = into none e (refusal (carrying lt z))
         go (inr w) = into (some w.0) w.1 (stop (overlong w.0) 17 t 0 _ w.2 (carrying lt z))
 
-    module _ (h : n.fits ≡ true) (size : length m.components ≡ 64) where
-      lu : Labelled (bytes_of n.tag) n.tag
-      lu = record { bytes = refl; short = f.short h }
+    module _ (u : Label) (h : n ≡ Some u) (size : length m.components ≡ 64) where
+      first : (free_tag (components_of m) (bytes_of x) ≡ some (bytes_of u)) × (tag_fits u ≡ true)
+      first = subst (FreeTag (components_of m) (bytes_of x)) h f
 
-      unheld : find (bytes_of n.tag) (components_of m) ≡ none
-      unheld = free-tag (components_of m) (bytes_of x) (bytes_of n.tag) (f.free h)
+      lu : Labelled (bytes_of u) u
+      lu = record { bytes = refl; short = first.1 }
+
+      unheld : find (bytes_of u) (components_of m) ≡ none
+      unheld = free-tag (components_of m) (bytes_of x) (bytes_of u) first.0
 
       -- an operation, or not
       abbrev operation : Outcome
-      operation = check (view m) (lists_full (view m) (bytes_of n.tag)) 16 empty 0
-          (record { answer = made (bytes_of n.tag); model = with_operation (view m) (bytes_of n.tag) c (replicate (input_count c) none) t })
+      operation = check (view m) (lists_full (view m) (bytes_of u)) 16 empty 0
+          (record { answer = made (bytes_of u); model = with_operation (view m) (bytes_of u) c (replicate (input_count c) none) t })
 
       abbrev plain : Outcome
-      plain = record { answer = made (bytes_of n.tag); model = with_component (view m) (bytes_of n.tag) c t }
+      plain = record { answer = made (bytes_of u); model = with_component (view m) (bytes_of u) c t }
 
       under : (b : Bool) → is_operation c ≡ b → Step (check (view m) (full (view m)) 15 empty 0 (cond b operation plain)) m r → Meets (add_component t c) m r
       unfolding add_under
       under b o s =
-          into (some (bytes_of n.tag)) (f.free h) (skip (overlong (bytes_of n.tag)) 17 t 0 (fits_not_long n.tag (f.short h))
+          into (some (bytes_of u)) first.0 (skip (overlong (bytes_of u)) 17 t 0 (fits_not_long u first.1)
           (subst (λ (y : Bool). Step (check (view m) (full (view m)) 15 empty 0 (cond y operation plain)) m r) (sym o) s))
 
-      pub add-plain : is_operation c ≡ false → Grew m n.tag c x r → Meets (add_component t c) m r
+      pub add-plain : is_operation c ≡ false → Grew m u c x r → Meets (add_component t c) m r
       add-plain o z = under false o (grew m (standing m v) size lu lt c unheld z)
 
-      pub add_operation : is_operation c ≡ true → length m.lists ≡ 128 → (row : InputList) → RowOf n.tag (replicate (input_count c) none) row → Listed m n.tag c row x r → Meets (add_component t c) m r
+      pub add_operation : is_operation c ≡ true → length m.lists ≡ 128 → (row : InputList) → RowOf u (replicate (input_count c) none) row → Listed m u c row x r → Meets (add_component t c) m r
       add_operation o lsize row ro z = under true o (listed m (standing m v) size lsize lu lt c unheld (replicate (input_count c) none) row ro z)

@@ -10,19 +10,17 @@ use native.Mathlib.Omega.{arith}
 use lib.Dec.{T}
 use lib.ListN.{length}
 use Rattle.tag.specs.declared.Tag.{Tag as Label}
-use Rattle.tag.specs.declared.numbered.Numbered.{Numbered}
+use Rattle.std.specs.Prelude.{Some, None}
 use Rattle.tag.specs.Tags.{Tag, overlong, numbered, is}
-use Rattle.tag.specs.View.{bytes_of, tag_fits}
-use Rattle.tag.specs.Fitted.{Fitted}
+use Rattle.tag.specs.View.{bytes_of, tag_fits, Made}
 use Rattle.tag.proofs.Laws.Is.{is_true}
-use Rattle.tag.proofs.Laws.View.{made_whole}
 use Rattle.component.specs.declared.model_component.Component.{Component}
 use Rattle.model.specs.declared.implicit_model.Model.{Model as Record}
 use Rattle.model.specs.Table.{all, Table, held}
 use Rattle.model.specs.Model.{Model, short_tag, valid}
 use Rattle.model.specs.Edit.{first_free, free_tag}
 use Rattle.model.specs.View.{components_of, view, passes}
-use Rattle.model.proofs.Laws.Bool.{true→T, and_T₁, and_T₂}
+use Rattle.model.proofs.Laws.Bool.{and_T₁, and_T₂}
 use Rattle.model.proofs.Laws.Valid.{valid_passed}
 use Rattle.held.proofs.Laws.Standing.{passes-valid}
 use Rattle.adding_component.specs.Free.{FreeTag}
@@ -77,23 +75,15 @@ module _ (cs : Table Component) (t : Label) where
   unfolding Trying
   trying_start {n} e h = ap (λ (i : ℕ). first_free cs (bytes_of t) i 1) (add-one n ∙ ap suc e) ∙ first-start cs (bytes_of t) h
 
-  pub free-once : tag_fits t ≡ true → held (bytes_of t) cs ≡ false → FreeTag cs (bytes_of t) (record { fits = true; tag = t })
-  free-once s h = record {
-    free = λ _. at_once cs (bytes_of t) h;
-    short = λ _. s;
-    missed = λ e. absurd (true→T false (sym e));
-  }
+  pub free-once : tag_fits t ≡ true → held (bytes_of t) cs ≡ false → FreeTag cs (bytes_of t) (Some t)
+  free-once s h = (at_once cs (bytes_of t) h, s)
 
   module _ (left k : ℕ) (h : Trying cs (bytes_of t) left k) where
-    pub free-none : left ≤ 0 → FreeTag cs (bytes_of t) (record { fits = false; tag = t })
+    pub free-none : left ≤ 0 → FreeTag cs (bytes_of t) None
     unfolding Trying
-    free-none l = record {
-      free = λ e. absurd (true→T false e);
-      short = λ e. absurd (true→T false e);
-      missed = λ _. inl (sym h ∙ (ap (λ (i : ℕ). first_free cs (bytes_of t) i k) (let z : left ≡ 0 = omega arith in z) ∙ first-none cs (bytes_of t) k));
-    }
+    free-none l = inl (sym h ∙ (ap (λ (i : ℕ). first_free cs (bytes_of t) i k) (let z : left ≡ 0 = omega arith in z) ∙ first-none cs (bytes_of t) k))
 
-    module _ (l : 0 < left) (u : Numbered) (f : Fitted (numbered (bytes_of t) k) u) where
+    module _ (l : 0 < left) where
       more : left ≡ suc (left - 1)
       more = omega arith
 
@@ -102,40 +92,16 @@ module _ (cs : Table Component) (t : Label) where
       tried p = sym h ∙ (ap (λ (i : ℕ). first_free cs (bytes_of t) i k) more ∙ first-free cs (bytes_of t) (left - 1) k p)
 
       -- it is too long
-      pub free-long : T (all short_tag cs) → u.fits ≡ false → FreeTag cs (bytes_of t) u
-      free-long v e =
-          let o : overlong (numbered (bytes_of t) k) ≡ true = not_off (overlong (numbered (bytes_of t) k)) (sym f.fits ∙ e) in
-          record {
-            free = λ q. absurd (true→T false (sym e ∙ q));
-            short = λ q. absurd (true→T false (sym e ∙ q));
-            missed = λ _. inr (numbered (bytes_of t) k, tried (not_held cs (numbered (bytes_of t) k) v o), o);
-          }
-        where
-          not_off : (b : Bool) → not b ≡ false → b ≡ true
-          not_off true q = refl
-          not_off false q = absurd (true→T false (sym q))
+      pub free-long : T (all short_tag cs) → overlong (numbered (bytes_of t) k) ≡ true → FreeTag cs (bytes_of t) None
+      free-long v o = inr (numbered (bytes_of t) k, tried (not_held cs (numbered (bytes_of t) k) v o), o)
 
-      module _ (e : u.fits ≡ true) where
-        fitted : overlong (numbered (bytes_of t) k) ≡ false
-        fitted = not_on (overlong (numbered (bytes_of t) k)) (sym f.fits ∙ e)
-          where
-            not_on : (b : Bool) → not b ≡ true → b ≡ false
-            not_on false q = refl
-            not_on true q = absurd (true→T false q)
+      module _ (u : Label) (made : Made (numbered (bytes_of t) k) u) where
+        pub free-found : held (bytes_of u) cs ≡ false → FreeTag cs (bytes_of t) (Some u)
+        free-found n = (tried (ap (λ (b : Tag). held b cs) (sym made.labelled.bytes) ∙ n) ∙ ap some (sym made.labelled.bytes), made.labelled.short)
 
-        bytes : bytes_of u.tag ≡ numbered (bytes_of t) k
-        bytes = (made_whole (numbered (bytes_of t) k) u.tag fitted f.made).labelled.bytes
-
-        pub free-found : held (bytes_of u.tag) cs ≡ false → FreeTag cs (bytes_of t) u
-        free-found n = record {
-          free = λ _. tried (ap (λ (b : Tag). held b cs) (sym bytes) ∙ n) ∙ ap some (sym bytes);
-          short = λ _. (made_whole (numbered (bytes_of t) k) u.tag fitted f.made).labelled.short;
-          missed = λ z. absurd (true→T false (sym z ∙ e));
-        }
-
-        pub trying_next : held (bytes_of u.tag) cs ≡ true → Trying cs (bytes_of t) (left - 1) (k + 1)
+        pub trying_next : held (bytes_of u) cs ≡ true → Trying cs (bytes_of t) (left - 1) (k + 1)
         unfolding Trying
         trying_next n =
             ap (λ (i : ℕ). first_free cs (bytes_of t) (left - 1) i) (add-one k)
-            ∙ (sym (first-held cs (bytes_of t) (left - 1) k (ap (λ (b : Tag). held b cs) (sym bytes) ∙ n))
+            ∙ (sym (first-held cs (bytes_of t) (left - 1) k (ap (λ (b : Tag). held b cs) (sym made.labelled.bytes) ∙ n))
             ∙ (ap (λ (i : ℕ). first_free cs (bytes_of t) i k) (sym more) ∙ h))

@@ -1,32 +1,43 @@
 -- `adding_component::free_tag` meets its contract. Assumes nothing.
 use native.Mathlib.Omega.{arith}
-use borrow.Author.Tests.{not-true, not-false}
-use Rattle.model.specs.View.{components_of}
-use Rattle.edit.proofs.Laws.Tests.{taken, free}
-use Rattle.adding_component.proofs.Laws.Free.{record-short, trying_start, trying_next, free-once, free-long, free-found, free-none}
+use mathlib.Core.Path.{◌≡◌, sym, subst}
+use Prim.Native.Nat.{ℕ, ◌+◌, ◌-◌}
+use lib.ListN.{length}
+use Rattle.tag.specs.View.{bytes_of}
+use Rattle.model.specs.View.{component_of, components_of}
+use Rattle.held.proofs.Laws.Rows.{rows-live}
+use Rattle.edit.proofs.Laws.Tests.{free}
+use Rattle.adding_operation.proofs.Laws.Operation.{found_held, not_some}
+use Rattle.adding_component.specs.Free.{FreeTag}
+use Rattle.adding_component.proofs.Laws.Free.{Trying, record-short, trying_start, trying_next, free-once, free-long, free-found, free-none}
 use Rattle.adding_component.proofs.free_tag.Goals as goal
 
-pub returns-in-Nothing : goal.returns-in-Nothing
-returns-in-Nothing c = free-once (components_of c.args.m) c.args.t c.requires.short (free c.find_component-f.ensures c.in-Nothing.is)
+pub returns-then-is_none : goal.returns-then-is_none
+returns-then-is_none c = free-once (components_of c.args.m.now) c.args.tag c.requires.short (free c.find_component.ensures (not_some _ c.if-is_none.ensures))
 
-pub overflow_add-left : goal.overflow_add-left
-overflow_add-left c = omega (arith, c.components_held-left.ensures.bound)
+pub loop-k-init : goal.loop-k-init
+loop-k-init c =
+    let live = rows-live component_of _ _ 64 c.live_components.ensures.rows c.live_components.ensures.bound in
+    let left : length c.live_components.result.now + 2 - 1 ≡ length c.live_components.result.now + 1 = omega arith in
+    subst (λ (n : ℕ). Trying (components_of c.args.m.now) (bytes_of c.args.tag) n 1) (sym left) (trying_start (components_of c.args.m.now) c.args.tag live.live (found_held c.find_component.ensures c.if-is_none.ensures))
 
-pub loop-left-init : goal.loop-left-init
-loop-left-init c =
-    (trying_start (components_of c.args.m) c.args.t c.components_held-left.ensures.live (taken c.find_component-f.ensures c.in_default.is), omega (arith, c.components_held-left.ensures.bound))
+pub returns-in_err-numbered : goal.returns-in_err-numbered
+returns-in_err-numbered c =
+    subst (FreeTag (components_of c.args.m.now) (bytes_of c.args.tag)) (sym c.from_residual.ensures)
+    (free-long (components_of c.args.m.now) c.args.tag _ c.loop-k.k c.loop-k.invariant (omega (arith, c.loop-k-test.true)) (record-short c.args.m.now c.requires.passing) c.in_err-numbered.ensures)
 
-pub returns-then-not-u : goal.returns-then-not-u
-returns-then-not-u c =
-    let v = c.loop-left in free-long (components_of c.args.m) c.args.t v.left v.k v.invariant.0 c.loop-left-test.true c.numbered_tag-u.result c.numbered_tag-u.ensures (record-short c.args.m c.requires.passing) (not-true _ c.if-not-u.true)
+pub returns-then-is_none-2 : goal.returns-then-is_none-2
+returns-then-is_none-2 c =
+    free-found (components_of c.args.m.now) c.args.tag _ c.loop-k.k c.loop-k.invariant (omega (arith, c.loop-k-test.true)) _ c.in_ok-numbered.ensures.1
+    (free c.find_component-in-loop-k.ensures (not_some _ c.if-is_none-2.ensures))
 
-pub returns-in-Nothing-g : goal.returns-in-Nothing-g
-returns-in-Nothing-g c =
-    let v = c.loop-left in free-found (components_of c.args.m) c.args.t v.left v.k v.invariant.0 c.loop-left-test.true c.numbered_tag-u.result c.numbered_tag-u.ensures (not-false _ c.if-not-u.false) (free c.find_component-g.ensures c.in-Nothing-g.is)
-
-pub loop-left-preserved : goal.loop-left-preserved
-loop-left-preserved c =
-    let v = c.loop-left in (trying_next (components_of c.args.m) c.args.t v.left v.k v.invariant.0 c.loop-left-test.true c.numbered_tag-u.result c.numbered_tag-u.ensures (not-false _ c.if-not-u.false) (taken c.find_component-g.ensures c.in_default-g.is), omega arith)
+pub loop-k-preserved : goal.loop-k-preserved
+loop-k-preserved c =
+    let end = length c.live_components.result.now + 2 in
+    let left : end - c.loop-k.k - 1 ≡ end - (c.loop-k.k + 1) = omega arith in
+    subst (λ (n : ℕ). Trying (components_of c.args.m.now) (bytes_of c.args.tag) n (c.loop-k.k + 1)) left
+    (trying_next (components_of c.args.m.now) c.args.tag _ c.loop-k.k c.loop-k.invariant (omega (arith, c.loop-k-test.true)) _ c.in_ok-numbered.ensures.1
+    (found_held c.find_component-in-loop-k.ensures c.if-is_none-2.ensures))
 
 pub returns : goal.returns
-returns c = let v = c.loop-left in free-none (components_of c.args.m) c.args.t v.left v.k v.invariant.0 (omega arith)
+returns c = free-none (components_of c.args.m.now) c.args.tag _ c.loop-k.k c.loop-k.invariant (omega (arith, c.loop-k-test.false))

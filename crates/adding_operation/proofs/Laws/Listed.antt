@@ -3,7 +3,7 @@ use mathlib.Core.Path.{◌≡◌, refl, sym, ◌∙◌, ap, subst}
 use mathlib.Core.Bool.{Bool, true, false, not, ◌&&◌, true≢false}
 use mathlib.Core.List.{List, []}
 use mathlib.Core.Option.{none}
-use Prim.Native.Nat.{◌+◌, ◌<◌, ◌≤◌}
+use Prim.Native.Nat.{ℕ, ◌+◌, ◌<◌, ◌≤◌}
 use native.Mathlib.Omega.{arith}
 use native.Mathlib.Decide.{dec_le}
 use lib.Dec.{leb}
@@ -15,8 +15,7 @@ use Rattle.tag.specs.View.{bytes_of, Labelled}
 use Rattle.component.specs.declared.model_component.Component.{Component}
 use Rattle.model.specs.declared.implicit_model.InputList.{InputList}
 use Rattle.model.specs.declared.implicit_model.Model.{Model as Record}
-use Rattle.held.specs.declared.find.Found.{Found}
-use Rattle.held.specs.declared.find.Found.TheVariants.{At, Nothing}
+use Rattle.std.specs.Prelude.{Option, Some, None}
 use Rattle.model.specs.Table.{find}
 use Rattle.model.specs.Model.{Place}
 use Rattle.model.specs.Edit.{made, check, full, lists_full, with_operation}
@@ -35,13 +34,13 @@ use Rattle.input_rows.specs.Inputs.{RowOf}
 use Rattle.adding_operation.specs.Listed.{no_room, list_put, Placed, Listed}
 
 -- room for one list more
-pub room-more : (m : Record) (f : Found) → no_room m f ≡ false → f ≡ Nothing → m.list_count < 128
-room-more m f h e = leb-false 128 m.list_count (subst (λ (x : Found). no_room m x ≡ false) e h)
+pub room-more : (m : Record) (f : Option ℕ) → no_room m f ≡ false → f ≡ None → m.list_count < 128
+room-more m f h e = leb-false 128 m.list_count (subst (λ (x : Option ℕ). no_room m x ≡ false) e h)
 
 -- a list put leaves the components alone
-put_count : (m : Record) (l : InputList) (f : Found) → (list_put m l f).component_count ≡ m.component_count
-put_count m l (At i) = refl
-put_count m l Nothing = refl
+put_count : (m : Record) (l : InputList) (f : Option ℕ) → (list_put m l f).component_count ≡ m.component_count
+put_count m l (Some i) = refl
+put_count m l None = refl
 
 -- ---- each way out of `add_listed`
 
@@ -49,7 +48,7 @@ module _ {m : Record} {t : Label} {c : Component} {l : InputList} {d : Label} {r
   pub listed_15 : 64 ≤ m.component_count → Refused m 15 [] 0 r → Listed m t c l d r
   listed_15 h z = record { full = λ _. z; placed = λ k. absurd (let y : ⊥ = omega arith in y) }
 
-  module _ (k : m.component_count < 64) {f : Found} (q : Sought (lists_of m) 128 (bytes_of t) f) where
+  module _ (k : m.component_count < 64) {f : Option ℕ} (q : Sought (lists_of m) 128 (bytes_of t) f) where
     pub listed_16 : no_room m f ≡ true → Refused m 16 [] 0 r → Listed m t c l d r
     listed_16 h z = record {
       full = λ k'. absurd (let y : ⊥ = omega arith in y);
@@ -71,10 +70,10 @@ module _ {m : Record} {t : Label} {c : Component} {l : InputList} {d : Label} {r
 
 module _ (m : Record) (size : length m.lists ≡ 128) {t : Tag} where
   -- the code's test is the definition's
-  full_is : (f : Found) → Sought (lists_of m) 128 t f → lists_full (view m) t ≡ no_room m f
+  full_is : (f : Option ℕ) → Sought (lists_of m) 128 t f → lists_full (view m) t ≡ no_room m f
   unfolding view
-  full_is (At i) q = ap (λ (b : Bool). not b && leb 128 (length (lists_of m))) (taken q refl)
-  full_is Nothing q = ap (λ (b : Bool). not b && leb 128 (length (lists_of m))) (free q refl) ∙ go (dec_le 128 m.list_count)
+  full_is (Some i) q = ap (λ (b : Bool). not b && leb 128 (length (lists_of m))) (taken q refl)
+  full_is None q = ap (λ (b : Bool). not b && leb 128 (length (lists_of m))) (free q refl) ∙ go (dec_le 128 m.list_count)
     where
       go : Dec (128 ≤ m.list_count) → leb 128 (length (lists_of m)) ≡ leb 128 m.list_count
       go (yes h) = le-leb 128 (length (lists_of m)) (omega (arith, rows-length list_of m.lists m.list_count)) ∙ sym (le-leb 128 m.list_count h)
@@ -87,15 +86,15 @@ module _ (m : Record) (g : Standing m) (size : length m.components ≡ 64) (lsiz
   row_is : list_of row ≡ (t, ps)
   row_is = λ j. ((ap bytes_of ro.tag ∙ lt.bytes) j, ro.places j)
 
-  put-done : {r : Edited} (f : Found) → Sought (lists_of m) 128 t f → no_room m f ≡ false → Ends (made t) (with_more (list_put m row f) u c e) r
+  put-done : {r : Edited} (f : Option ℕ) → Sought (lists_of m) 128 t f → no_room m f ≡ false → Ends (made t) (with_more (list_put m row f) u c e) r
       → Step (record { answer = made t; model = with_operation (view m) t c ps a }) m r
   unfolding view
-  put-done (At i) q h z =
+  put-done (Some i) q h z =
       let s = over_row list_of list_fits m.lists m.list_count t ps row row_is (ro.fits lt.short) g.once-lists g.lists i no_list
       (found_row list_of m.lists m.list_count no_list q refl) in
       finish_made z (grown_same m g size k lt la c x _ m.list_count g.few_lists s) (grown_stands m g size k lt la c x _ m.list_count g.few_lists s)
-  put-done Nothing q h z =
-      let l : m.list_count < 128 = room-more m Nothing h refl in
+  put-done None q h z =
+      let l : m.list_count < 128 = room-more m None h refl in
       let s = more_row list_of list_fits m.lists m.list_count t ps row row_is (ro.fits lt.short) g.once-lists g.lists (missing q refl) (omega arith) in
       finish_made z (grown_same m g size k lt la c x _ (m.list_count + 1) (omega arith) s) (grown_stands m g size k lt la c x _ (m.list_count + 1) (omega arith) s)
 

@@ -1,22 +1,21 @@
 -- Each way out of `add_operation`. Assumes nothing.
-use mathlib.Core.Path.{◌≡◌, sym, ◌∙◌, ap, subst}
-use mathlib.Core.Bool.{Bool, true, false, not, ◌||◌}
+use mathlib.Core.Path.{◌≡◌, refl, sym, ◌∙◌, ap, subst}
+use mathlib.Core.Bool.{Bool, true, false, true≢false, not, ◌||◌}
 use mathlib.Core.List.{List, []}
-use Prim.Native.Nat.{ℕ, ◌<◌, ◌≤◌}
+use Prim.Native.Nat.{ℕ, ◌≤◌}
 use lib.Dec.{eqb, leb→le}
-use lib.ListN.{length, take}
+use lib.ListN.{length}
 use Rattle.tag.specs.declared.Tag.{Tag as Label}
 use Rattle.tag.specs.Tags.{Tag, empty, overlong}
-use Rattle.tag.specs.View.{bytes_of, Labelled, Made}
+use Rattle.tag.specs.View.{bytes_of, Labelled}
 use Rattle.component.specs.Kind.{is_operation}
 use Rattle.component.specs.Value.{input_count}
 use Rattle.component.specs.declared.model_component.Component.{Component}
 use Rattle.component.proofs.Theorems.Count.{count_few}
 use Rattle.model.specs.declared.implicit_model.InputList.{InputList}
 use Rattle.model.specs.declared.implicit_model.Model.{Model as Record}
-use Rattle.held.specs.declared.find.Found.{Found}
-use Rattle.held.specs.declared.find.Found.TheVariants.{At, Nothing}
-use Rattle.model.specs.Table.{any, held}
+use Rattle.std.specs.Prelude.{Option, Some, None, is_some}
+use Rattle.model.specs.Table.{Table, any, held}
 use Rattle.model.specs.Model.{Place}
 use Rattle.model.specs.Edit.{add_operation, edit, add_op, looked_at, new_places}
 use Rattle.model.specs.View.{components_of, view, passes}
@@ -26,7 +25,7 @@ use Rattle.edit.specs.declared.Edited.{Edited}
 use Rattle.edit.specs.Meets.{Meets}
 use Rattle.edit.specs.Ends.{Refused}
 use Rattle.edit.proofs.Laws.Step.{Step, skip, stop, meets_on}
-use Rattle.edit.proofs.Laws.Tests.{long, short, labelled, carrying, taken, free, missing, sought_by}
+use Rattle.edit.proofs.Laws.Tests.{carrying, taken, free, missing, sought_by}
 use Rattle.input_rows.specs.Inputs.{inputs_of, fitting, asked, RowOf}
 use Rattle.input_rows.proofs.Laws.Inputs.{count_is, asked_are}
 use Rattle.adding_operation.specs.Listed.{Listed}
@@ -35,40 +34,49 @@ use Rattle.adding_operation.proofs.Laws.Listed.{listed}
 pub few_inputs : (c : Component) → input_count c ≤ 3
 few_inputs c = leb→le (input_count c) 3 (count_few c)
 
+-- a search that found something, and one that found nothing
+pub found_held : {A : Type 0} {r : Table A} {cap : ℕ} {t : Tag} {f : Option ℕ} → Sought r cap t f → is_some f ≡ true → held t r ≡ true
+found_held {f = Some i} p h = taken p refl
+found_held {f = None} p h = absurd (true≢false (sym h))
+
+pub not_some : (f : Option ℕ) → is_some f ≡ false → f ≡ None
+not_some None h = refl
+not_some (Some i) h = absurd (true≢false h)
+
 module _ (m : Record) (t : Tag) (c : Component) (given : Bool) (n : ℕ) (a b d : Tag) (r : Edited) (v : passes m ≡ true) where
   on : Step (add_op (view m) t c (inputs_of given n a b d)) m r → Meets (add_operation t c (inputs_of given n a b d)) m r
   unfolding edit
   on s = meets_on v s
 
-  pub op_1 : 32 < length t → Refused m 1 [] 0 r → Meets (add_operation t c (inputs_of given n a b d)) m r
+  pub op_1 : overlong t ≡ true → Refused m 1 [] 0 r → Meets (add_operation t c (inputs_of given n a b d)) m r
   unfolding add_op
-  op_1 h z = on (stop (overlong t || any overlong (looked_at (inputs_of given n a b d))) 1 empty 0 _ (ap (λ (x : Bool). x || any overlong (looked_at (inputs_of given n a b d))) (long t h)) z)
+  op_1 h z = on (stop (overlong t || any overlong (looked_at (inputs_of given n a b d))) 1 empty 0 _ (ap (λ (x : Bool). x || any overlong (looked_at (inputs_of given n a b d))) h) z)
 
-  module _ (st : length t ≤ 32) where
+  module _ (st : overlong t ≡ false) where
     either : (x : Bool) → any overlong (looked_at (inputs_of given n a b d)) ≡ x → (overlong t || any overlong (looked_at (inputs_of given n a b d))) ≡ x
-    either x e = ap (λ (y : Bool). y || any overlong (looked_at (inputs_of given n a b d))) (short t st) ∙ e
+    either x e = ap (λ (y : Bool). y || any overlong (looked_at (inputs_of given n a b d))) st ∙ e
 
     pub op_1_inputs : true ≡ any overlong (looked_at (inputs_of given n a b d)) → Refused m 1 [] 0 r → Meets (add_operation t c (inputs_of given n a b d)) m r
     unfolding add_op
     op_1_inputs h z = on (stop (overlong t || any overlong (looked_at (inputs_of given n a b d))) 1 empty 0 _ (either true (sym h)) z)
 
-    module _ (sh : false ≡ any overlong (looked_at (inputs_of given n a b d))) (u : Label) (mu : Made (take 32 t) u) where
-      lt : Labelled t u
-      lt = labelled st mu
-
+    module _ (sh : false ≡ any overlong (looked_at (inputs_of given n a b d))) (u : Label) (lt : Labelled t u) where
       pub op_4 : is_operation c ≡ false → Refused m 4 (bytes_of u) 0 r → Meets (add_operation t c (inputs_of given n a b d)) m r
       unfolding add_op
       op_4 h z =
           on (skip (overlong t || any overlong (looked_at (inputs_of given n a b d))) 1 empty 0 (either false (sym sh)) (stop (not (is_operation c)) 4 t 0 _ (ap not h) (carrying lt z)))
 
-      module _ (ok : is_operation c ≡ true) (f : Found) (p : Sought (components_of m) 64 (bytes_of u) f) where
-        pub op_11 : {i : ℕ} → f ≡ At i → Refused m 11 (bytes_of u) 0 r → Meets (add_operation t c (inputs_of given n a b d)) m r
+      module _ (ok : is_operation c ≡ true) (f : Option ℕ) (p : Sought (components_of m) 64 (bytes_of u) f) where
+        pub op_11 : is_some f ≡ true → Refused m 11 (bytes_of u) 0 r → Meets (add_operation t c (inputs_of given n a b d)) m r
         unfolding add_op view
         op_11 e z =
             on (skip (overlong t || any overlong (looked_at (inputs_of given n a b d))) 1 empty 0 (either false (sym sh)) (skip (not (is_operation c)) 4 t 0 (ap not ok)
-            (stop (held t (components_of m)) 11 t 0 _ (taken (sought_by lt p) e) (carrying lt z))))
+            (stop (held t (components_of m)) 11 t 0 _ (found_held (sought_by lt p) e) (carrying lt z))))
 
-        module _ (e : f ≡ Nothing) where
+        module _ (q : is_some f ≡ false) where
+          e : f ≡ None
+          e = not_some f q
+
           pub op_2 : fitting given n (input_count c) ≡ false → Refused m 2 (bytes_of u) 0 r → Meets (add_operation t c (inputs_of given n a b d)) m r
           unfolding add_op view
           op_2 h z =

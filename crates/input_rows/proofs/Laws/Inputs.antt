@@ -3,81 +3,38 @@ use mathlib.Core.Path.{◌≡◌, refl, sym, ◌∙◌, ap}
 use mathlib.Core.Bool.{Bool, true, false, ◌||◌, ◌&&◌}
 use mathlib.Core.List.{List, [], ◌∷◌, map}
 use mathlib.Core.Option.{none, some}
-use Prim.Native.Nat.{ℕ, zero, suc, ◌-◌, ◌<◌, ◌≤◌, min}
+use Prim.Native.Nat.{ℕ, zero, suc, ◌-◌, ◌≤◌, min}
 use native.Mathlib.Omega.{arith}
-use lib.Dec.{T, leb, ltb, eqb}
+use lib.Dec.{T, leb, eqb}
 use lib.ListN.{length, take, replicate, length-map, length-take, length-replicate}
-use borrow.Author.Tests.{lt-ltb, le-ltb, le-leb, eq-eqb, eqb-true}
+use borrow.Author.Tests.{le-leb, eq-eqb, eqb-true}
 use Rattle.tag.specs.declared.Tag.{Tag as Label}
 use Rattle.tag.specs.Tags.{Tag, empty, overlong}
 use Rattle.tag.specs.View.{tag_fits, Made}
 use Rattle.component.specs.Value.{input_count}
 use Rattle.component.specs.declared.model_component.Component.{Component}
-use Rattle.model.specs.declared.implicit_model.Place.{Place as PlaceRecord}
+use Rattle.std.specs.Prelude.{Some, None}
+use Rattle.std.specs.List.{list_any}
+use Rattle.std.proofs.Common.{Bor}
 use Rattle.model.specs.Table.{any}
 use Rattle.model.specs.Model.{Place}
 use Rattle.model.specs.Edit.{looked_at, new_places}
-use Rattle.model.specs.View.{every, place_of, rows, place_fits, list_fits}
+use Rattle.model.specs.View.{PlaceRecord, every, place_of, rows, place_fits, list_fits}
 use Rattle.tag.proofs.Laws.View.{made_whole}
 use Rattle.model.proofs.Laws.Bool.{true→T, and_T}
 use Rattle.model.proofs.Laws.Valid.{unpassed}
-use Rattle.edit.proofs.Laws.Tests.{long, short, labelled}
 use Rattle.input_rows.specs.Inputs.{tags_given, inputs_of, fitting, Short, asked, RowOf}
 
 -- ---- whether one is too long
 
-is_too_long : Bool → ℕ → Tag → Tag → Tag → Bool
-is_too_long given n a b d = given && ((ltb 0 n && overlong a) || ((ltb 1 n && overlong b) || (ltb 2 n && overlong d)))
-
-or_nothing : (b : Bool) → (b || false) ≡ b
-or_nothing true = refl
-or_nothing false = refl
-
-too_long : (given : Bool) (n : ℕ) (a b d : Tag) → is_too_long given n a b d ≡ any overlong (looked_at (inputs_of given n a b d))
-unfolding is_too_long inputs_of tags_given
-too_long false n a b d = refl
-too_long true zero a b d = refl
-too_long true (suc zero) a b d = refl
-too_long true (suc (suc zero)) a b d = refl
-too_long true (suc (suc (suc k))) a b d =
-    sym (rw (or_nothing (overlong d), lt-ltb 0 (suc (suc (suc k))) (omega arith), lt-ltb 1 (suc (suc (suc k))) (omega arith), lt-ltb 2 (suc (suc (suc k))) (omega arith)))
-
-module _ (given : Bool) (n : ℕ) (a b d : Tag) where
-  says : {x : Bool} → is_too_long given n a b d ≡ x → x ≡ any overlong (looked_at (inputs_of given n a b d))
-  says e = sym e ∙ too_long given n a b d
-
-  pub long-none : given ≡ false → false ≡ any overlong (looked_at (inputs_of given n a b d))
-  unfolding is_too_long
-  long-none g = says (rw g)
-
-  module _ (g : given ≡ true) where
-    pub long_0 : n < 1 → false ≡ any overlong (looked_at (inputs_of given n a b d))
-    unfolding is_too_long
-    long_0 h = says (rw (g, le-ltb 0 n (omega arith), le-ltb 1 n (omega arith), le-ltb 2 n (omega arith)))
-
-    module _ (h0 : 1 ≤ n) where
-      pub long_a : 32 < length a → true ≡ any overlong (looked_at (inputs_of given n a b d))
-      unfolding is_too_long
-      long_a h = says (rw (g, lt-ltb 0 n (omega arith), long a h))
-
-      module _ (sa : length a ≤ 32) where
-        pub long_1 : n < 2 → false ≡ any overlong (looked_at (inputs_of given n a b d))
-        unfolding is_too_long
-        long_1 h = says (rw (g, lt-ltb 0 n (omega arith), short a sa, le-ltb 1 n (omega arith), le-ltb 2 n (omega arith)))
-
-        module _ (h1 : 2 ≤ n) where
-          pub long_b : 32 < length b → true ≡ any overlong (looked_at (inputs_of given n a b d))
-          unfolding is_too_long
-          long_b h = says (rw (g, lt-ltb 0 n (omega arith), short a sa, lt-ltb 1 n (omega arith), long b h))
-
-          module _ (sb : length b ≤ 32) where
-            pub long_2 : n < 3 → false ≡ any overlong (looked_at (inputs_of given n a b d))
-            unfolding is_too_long
-            long_2 h = says (rw (g, lt-ltb 0 n (omega arith), short a sa, lt-ltb 1 n (omega arith), short b sb, le-ltb 2 n (omega arith)))
-
-            pub long_d : 3 ≤ n → ltb 32 (length d) ≡ any overlong (looked_at (inputs_of given n a b d))
-            unfolding is_too_long overlong
-            long_d h = says (rw (g, lt-ltb 0 n (omega arith), short a sa, lt-ltb 1 n (omega arith), short b sb, lt-ltb 2 n (omega arith)))
+-- a test of the first n of three lent tags is one of the tags that are looked at
+pub any_given : (n : ℕ) (a b d : Bor Tag) → list_any (λ (x : Bor Tag). overlong x.now) (take n (a ∷ b ∷ d ∷ [])) ≡ any overlong (looked_at (inputs_of true n a.now b.now d.now))
+unfolding inputs_of tags_given
+any_given zero a b d = refl
+any_given (suc zero) a b d = refl
+any_given (suc (suc zero)) a b d = refl
+any_given (suc (suc (suc zero))) a b d = refl
+any_given (suc (suc (suc (suc k)))) a b d = refl
 
 -- ---- whether they are as many as asked for
 
@@ -130,8 +87,8 @@ row_fits : (t : Label) (k : ℕ) (ps : List PlaceRecord) → k ≤ 3 → T (ever
 unfolding list_fits
 row_fits t k ps h o f = unpassed (tag_fits t ∷ leb k 3 ∷ every (rows place_fits k ps) ∷ []) (true→T _ f, (true→T _ (le-leb k 3 h), (o, tt)))
 
-module _ (t y : Label) where
-  gaps : (k : ℕ) → k ≤ 3 → rows place_of k (record { assigned = false; tag = y } ∷ record { assigned = false; tag = y } ∷ record { assigned = false; tag = y } ∷ []) ≡ replicate k none
+module _ (t : Label) where
+  gaps : (k : ℕ) → k ≤ 3 → rows place_of k (None ∷ None ∷ None ∷ []) ≡ replicate k none
   unfolding rows place_of
   gaps zero h = refl
   gaps (suc zero) h = refl
@@ -139,7 +96,7 @@ module _ (t y : Label) where
   gaps (suc (suc (suc zero))) h = refl
   gaps (suc (suc (suc (suc k)))) h = absurd (let y : ⊥ = omega arith in y)
 
-  gaps_fit : (k : ℕ) → k ≤ 3 → T (every (rows place_fits k (record { assigned = false; tag = y } ∷ record { assigned = false; tag = y } ∷ record { assigned = false; tag = y } ∷ [])))
+  gaps_fit : (k : ℕ) → k ≤ 3 → T (every (rows place_fits k (None ∷ None ∷ None ∷ [])))
   unfolding rows place_fits
   gaps_fit zero h = tt
   gaps_fit (suc zero) h = tt
@@ -148,7 +105,7 @@ module _ (t y : Label) where
   gaps_fit (suc (suc (suc (suc k)))) h = absurd (let y : ⊥ = omega arith in y)
 
   pub unassigned_row : (k : ℕ) → k ≤ 3
-      → RowOf t (replicate k none) (record { tag = t; count = k; places = record { assigned = false; tag = y } ∷ record { assigned = false; tag = y } ∷ record { assigned = false; tag = y } ∷ [] })
+      → RowOf t (replicate k none) (record { tag = t; count = k; places = None ∷ None ∷ None ∷ [] })
   unassigned_row k h = record { tag = refl; places = gaps k h; fits = row_fits t k _ h (gaps_fit k h) }
 
 or_left : (a b : Bool) → (a || b) ≡ false → a ≡ false
@@ -161,29 +118,29 @@ or_right false b e = e
 
 -- a place that names the tag of a slice
 module _ (a : Tag) (x : Label) (mx : Made (take 32 a) x) (e : overlong a ≡ false) where
-  names : place_of (record { assigned = true; tag = x }) ≡ some a
+  names : place_of (Some x) ≡ some a
   unfolding place_of
   names = ap some (made_whole a x e mx).labelled.bytes
 
-  names_fit : T (place_fits (record { assigned = true; tag = x }))
+  names_fit : T (place_fits (Some x))
   unfolding place_fits
   names_fit = true→T _ (made_whole a x e mx).labelled.short
 
 module _ (a b d : Tag) (x y z : Label) (mx : Made (take 32 a) x) (my : Made (take 32 b) y) (mz : Made (take 32 d) z) where
   named : (k : ℕ) → k ≤ 3 → any overlong (take k (a ∷ b ∷ d ∷ [])) ≡ false
-      → (rows place_of k (record { assigned = true; tag = x } ∷ record { assigned = true; tag = y } ∷ record { assigned = true; tag = z } ∷ []) ≡ map some (take k (a ∷ b ∷ d ∷ [])))
-      × T (every (rows place_fits k (record { assigned = true; tag = x } ∷ record { assigned = true; tag = y } ∷ record { assigned = true; tag = z } ∷ [])))
+      → (rows place_of k (Some x ∷ Some y ∷ Some z ∷ []) ≡ map some (take k (a ∷ b ∷ d ∷ [])))
+      × T (every (rows place_fits k (Some x ∷ Some y ∷ Some z ∷ [])))
   unfolding rows
   named zero h e = (refl, tt)
   named (suc zero) h e =
       let p = or_left (overlong a) false e in
-      (ap (λ (o : Place). o ∷ []) (names a x mx p), and_T (place_fits (record { assigned = true; tag = x })) true (names_fit a x mx p) tt)
+      (ap (λ (o : Place). o ∷ []) (names a x mx p), and_T (place_fits (Some x)) true (names_fit a x mx p) tt)
   named (suc (suc zero)) h e =
       let p = or_left (overlong a) (overlong b || false) e in
       let q = or_left (overlong b) false (or_right (overlong a) (overlong b || false) e) in (
         rw (names a x mx p, names b y my q),
-        and_T (place_fits (record { assigned = true; tag = x })) (place_fits (record { assigned = true; tag = y }) && true) (names_fit a x mx p)
-            (and_T (place_fits (record { assigned = true; tag = y })) true (names_fit b y my q) tt),
+        and_T (place_fits (Some x)) (place_fits (Some y) && true) (names_fit a x mx p)
+            (and_T (place_fits (Some y)) true (names_fit b y my q) tt),
       )
   named (suc (suc (suc zero))) h e =
       let p = or_left (overlong a) (overlong b || (overlong d || false)) e in
@@ -191,15 +148,15 @@ module _ (a b d : Tag) (x y z : Label) (mx : Made (take 32 a) x) (my : Made (tak
       let q = or_left (overlong b) (overlong d || false) f in
       let s = or_left (overlong d) false (or_right (overlong b) (overlong d || false) f) in (
         rw (names a x mx p, names b y my q, names d z mz s),
-        and_T (place_fits (record { assigned = true; tag = x })) (place_fits (record { assigned = true; tag = y }) && (place_fits (record { assigned = true; tag = z }) && true)) (names_fit a x mx p)
-            (and_T (place_fits (record { assigned = true; tag = y })) (place_fits (record { assigned = true; tag = z }) && true) (names_fit b y my q)
-            (and_T (place_fits (record { assigned = true; tag = z })) true (names_fit d z mz s) tt)),
+        and_T (place_fits (Some x)) (place_fits (Some y) && (place_fits (Some z) && true)) (names_fit a x mx p)
+            (and_T (place_fits (Some y)) (place_fits (Some z) && true) (names_fit b y my q)
+            (and_T (place_fits (Some z)) true (names_fit d z mz s) tt)),
       )
   named (suc (suc (suc (suc k)))) h e = absurd (let y : ⊥ = omega arith in y)
 
   pub given_row : (t : Label) (k : ℕ) → Short k a b d
       → RowOf t (map some (take k (a ∷ b ∷ d ∷ [])))
-      (record { tag = t; count = k; places = record { assigned = true; tag = x } ∷ record { assigned = true; tag = y } ∷ record { assigned = true; tag = z } ∷ [] })
+      (record { tag = t; count = k; places = Some x ∷ Some y ∷ Some z ∷ [] })
   given_row t k s =
       let n = named k s.few s.short in
       record { tag = refl; places = n.0; fits = row_fits t k _ s.few n.1 }

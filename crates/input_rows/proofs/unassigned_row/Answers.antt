@@ -3,4 +3,4 @@ use Rattle.input_rows.proofs.Laws.Inputs.{unassigned_row}
 use Rattle.input_rows.proofs.unassigned_row.Goals as goal
 
 pub returns : goal.returns
-returns c = unassigned_row c.args.t c.args.t c.args.k
+returns c = unassigned_row c.args.t c.args.k

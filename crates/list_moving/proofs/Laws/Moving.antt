@@ -7,6 +7,7 @@ use mathlib.Core.Option.{none, some}
 use Prim.Native.Nat.{ℕ, ◌≤◌}
 use native.Mathlib.Omega.{arith}
 use lib.Dec.{T, leb}
+use Rattle.std.specs.Prelude.{Option, Some, None}
 use lib.ListN.{length, get_or, set, length-set}
 use lib.Seq.{get_or-set_other}
 use Rattle.tag.specs.declared.Tag.{Tag as Label}
@@ -15,8 +16,6 @@ use Rattle.tag.specs.View.{bytes_of, tag_fits}
 use Rattle.tag.proofs.Laws.Is.{same?}
 use Rattle.model.specs.declared.implicit_model.InputList.{InputList}
 use Rattle.model.specs.declared.implicit_model.Model.{Model as Record}
-use Rattle.held.specs.declared.find.Found.{Found}
-use Rattle.held.specs.declared.find.Found.TheVariants.{At, Nothing}
 use Rattle.model.specs.Table.{Table, find, cut, put, distinct, move}
 use Rattle.model.specs.View.{place_of, rows, list_of, lists_of, every, place_fits, list_fits}
 use Rattle.held.specs.Search.{Sought}
@@ -79,15 +78,15 @@ under-fits l u s h =
     unpassed (tag_fits u ∷ leb l.count 3 ∷ every (rows place_fits l.count l.places) ∷ []) (true→T (tag_fits u) s, p.1)
 
 -- where a list was found one stands, after any list was overwritten
-pub list_at : (m : Record) {t : Tag} {f : Found} {i : ℕ} → Sought (lists_of m) 128 t f → f ≡ At i → (j : ℕ) (l : InputList) (k : Record) → k ≡ with_list m j l → ListAt k i
+pub list_at : (m : Record) {t : Tag} {f : Option ℕ} {i : ℕ} → Sought (lists_of m) 128 t f → f ≡ Some i → (j : ℕ) (l : InputList) (k : Record) → k ≡ with_list m j l → ListAt k i
 list_at m {i = i} p e j l k w =
     subst (λ (x : Record). ListAt x i) (sym w) (record { below = (found_row list_of m.lists m.list_count no_list p e).below; within = p.within i e })
 
-module _ (m : Record) (t u : Label) (h : Movable m t u) (f : Found) (p : Sought (lists_of m) 128 (bytes_of t) f) where
+module _ (m : Record) (t u : Label) (h : Movable m t u) (f : Option ℕ) (p : Sought (lists_of m) 128 (bytes_of t) f) where
   g : Standing m
   g = standing m h.passing
 
-  pub moved_none : f ≡ Nothing → ListMoved m (bytes_of t) (bytes_of u) m
+  pub moved_none : f ≡ None → ListMoved m (bytes_of t) (bytes_of u) m
   moved_none e = record {
     components = refl;
     count = refl;
@@ -98,7 +97,7 @@ module _ (m : Record) (t u : Label) (h : Movable m t u) (f : Found) (p : Sought 
     fits = g.lists;
   }
 
-  module _ (size : length m.lists ≡ 128) (i : ℕ) (e : f ≡ At i) (l : InputList) (z : l ≡ list_under (get_or m.lists i no_list) u) (q : Found) (o : Sought (lists_of m) 128 (bytes_of u) q) where
+  module _ (size : length m.lists ≡ 128) (i : ℕ) (e : f ≡ Some i) (l : InputList) (z : l ≡ list_under (get_or m.lists i no_list) u) (q : Option ℕ) (o : Sought (lists_of m) 128 (bytes_of u) q) where
     at : RowAt list_of m.lists m.list_count i (bytes_of t) no_list
     at = found_row list_of m.lists m.list_count no_list p e
 
@@ -110,7 +109,7 @@ module _ (m : Record) (t u : Label) (h : Movable m t u) (f : Found) (p : Sought 
     new_fits = subst (λ (x : InputList). T (list_fits x)) (sym z)
         (under-fits (get_or m.lists i no_list) u h.short (row_fits list_fits m.lists m.list_count i no_list g.lists at.below (omega (arith, at.below, g.few_lists))))
 
-    pub moved-free : q ≡ Nothing → (r : Record) → r ≡ with_list m i l → ListMoved m (bytes_of t) (bytes_of u) r
+    pub moved-free : q ≡ None → (r : Record) → r ≡ with_list m i l → ListMoved m (bytes_of t) (bytes_of u) r
     moved-free n r w =
         let s = retag_row list_of list_fits m.lists m.list_count (bytes_of t) (bytes_of u) g.once-lists g.lists i no_list l at (missing o n) row_of new_fits in
         subst (ListMoved m (bytes_of t) (bytes_of u)) (sym w) (record {
@@ -123,7 +122,7 @@ module _ (m : Record) (t u : Label) (h : Movable m t u) (f : Found) (p : Sought 
           fits = s.fits;
         })
 
-    module _ (j : ℕ) (n : q ≡ At j) (k : Record) (w : k ≡ with_list m j l) where
+    module _ (j : ℕ) (n : q ≡ Some j) (k : Record) (w : k ≡ with_list m j l) where
       few_after : k.list_count ≤ 128
       few_after = subst (λ (x : Record). x.list_count ≤ 128) (sym w) g.few_lists
 

@@ -8,12 +8,10 @@ use lib.ListN.{length, get_or, set}
 use Rattle.tag.specs.Tags.{Tag}
 use Rattle.model.specs.declared.implicit_model.InputList.{InputList}
 use Rattle.model.specs.declared.implicit_model.Model.{Model as Record}
-use Rattle.model.specs.declared.implicit_model.Place.{Place as PlaceRecord}
-use Rattle.held.specs.declared.find.Found.{Found}
-use Rattle.held.specs.declared.find.Found.TheVariants.{At, Nothing}
+use Rattle.std.specs.Prelude.{Option, Some, None}
 use Rattle.model.specs.Model.{Place, list}
 use Rattle.model.specs.Edit.{done, with_list as wired}
-use Rattle.model.specs.View.{place_of, rows, list_of, lists_of, place_fits, view, passes}
+use Rattle.model.specs.View.{PlaceRecord, place_of, rows, list_of, lists_of, place_fits, view, passes}
 use Rattle.held.specs.Search.{Sought}
 use Rattle.held.proofs.Laws.Search.{RowAt}
 use Rattle.held.proofs.Laws.Standing.{standing}
@@ -26,12 +24,12 @@ use Rattle.edit.proofs.Laws.Stored.{list_stands, list_same}
 use Rattle.placing.specs.Placing.{placed_at}
 use Rattle.placing.proofs.Laws.Placing.{placed_stored}
 
-module _ (m : Record) (v : passes m ≡ true) (t : Tag) (f : Found) (q : Sought (lists_of m) 128 t f) where
-  pub list-none : f ≡ Nothing → list (view m) t ≡ none
+module _ (m : Record) (v : passes m ≡ true) (t : Tag) (f : Option ℕ) (q : Sought (lists_of m) 128 t f) where
+  pub list-none : f ≡ None → list (view m) t ≡ none
   unfolding view
   list-none e = missing q e
 
-  module _ (i : ℕ) (e : f ≡ At i) (d : InputList) where
+  module _ (i : ℕ) (e : f ≡ Some i) (d : InputList) where
     at : RowAt list_of m.lists m.list_count i t d
     at = found_row list_of m.lists m.list_count d q e
 

@@ -10,10 +10,9 @@ use Rattle.tag.specs.Tags.{Tag}
 use Rattle.tag.specs.View.{tag_fits}
 use Rattle.model.specs.declared.implicit_model.InputList.{InputList}
 use Rattle.model.specs.declared.implicit_model.Model.{Model as Record}
-use Rattle.model.specs.declared.implicit_model.Place.{Place as PlaceRecord}
 use Rattle.model.specs.Table.{put}
 use Rattle.model.specs.Model.{Place}
-use Rattle.model.specs.View.{every, place_of, rows, list_of, lists_of, place_fits, list_fits}
+use Rattle.model.specs.View.{PlaceRecord, every, place_of, rows, list_of, lists_of, place_fits, list_fits}
 use Rattle.held.proofs.Laws.Rows.{rows-set, rows-length}
 use Rattle.held.proofs.Laws.Search.{RowAt}
 use Rattle.model.proofs.Laws.Valid.{passed, unpassed}

@@ -1,21 +1,21 @@
 -- A record that stands and holds what a model does, at any table positions, after each step of an edit. Assumes nothing.
-use mathlib.Core.Path.{◌≡◌, refl, sym, ◌∙◌, ap, subst}
-use mathlib.Core.Bool.{Bool, true, false}
+use mathlib.Core.Path.{◌≡◌, sym, ◌∙◌, ap, subst}
+use mathlib.Core.Bool.{Bool}
 use mathlib.Core.List.{List, map}
-use mathlib.Core.Option.{none, some}
+use mathlib.Core.Option.{some}
 use Prim.Native.Nat.{ℕ, ◌≤◌}
 use lib.Dec.{T}
+use Rattle.std.specs.Prelude.{Some}
 use Rattle.tag.specs.declared.Tag.{Tag as Label}
 use Rattle.tag.specs.Tags.{Tag}
 use Rattle.tag.specs.View.{Labelled}
 use Rattle.component.specs.declared.model_component.Component.{Component}
 use Rattle.model.specs.declared.implicit_model.ComponentEntry.{ComponentEntry}
 use Rattle.model.specs.declared.implicit_model.Model.{Model as Record}
-use Rattle.model.specs.declared.implicit_model.Place.{Place as PlaceRecord}
 use Rattle.model.specs.Table.{Table, each}
 use Rattle.model.specs.Model.{Place, Model, Same}
 use Rattle.model.specs.Edit.{swap}
-use Rattle.model.specs.View.{place_of, rows, component_of, components_of, lists_of, every, place_fits, entry_fits, view}
+use Rattle.model.specs.View.{PlaceRecord, place_of, rows, component_of, components_of, lists_of, every, place_fits, entry_fits, view}
 use Rattle.model.proofs.Laws.Bool.{true→T}
 use Rattle.held.proofs.Laws.Changes.{Becomes, becomes_each}
 use Rattle.held.proofs.Laws.Standing.{Standing, same_view}
@@ -59,20 +59,12 @@ module _ (t : Tag) (by : PlaceRecord) (o : T (place_fits by)) (n r : Record) (s 
         };
       }
 
--- ---- what the place is swapped by
+-- ---- a place swapped by a tag
 
-pub cleared : (y : Label) → place_of (record { assigned = false; tag = y }) ≡ none
-unfolding place_of
-cleared y = refl
-
-pub cleared_fits : (y : Label) → T (place_fits (record { assigned = false; tag = y }))
-unfolding place_fits
-cleared_fits y = tt
-
-pub named : {t : Tag} {y : Label} → Labelled t y → place_of (record { assigned = true; tag = y }) ≡ some t
+pub named : {t : Tag} {y : Label} → Labelled t y → place_of (Some y) ≡ some t
 unfolding place_of
 named l = ap some l.bytes
 
-pub named-fits : {t : Tag} {y : Label} → Labelled t y → T (place_fits (record { assigned = true; tag = y }))
+pub named-fits : {t : Tag} {y : Label} → Labelled t y → T (place_fits (Some y))
 unfolding place_fits
 named-fits l = true→T _ l.short

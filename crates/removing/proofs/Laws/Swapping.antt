@@ -4,35 +4,35 @@ use mathlib.Core.Bool.{true, false}
 use mathlib.Core.List.{List, [], ◌∷◌, map}
 use Prim.Native.Nat.{ℕ, ◌≤◌}
 use lib.Dec.{T, leb}
+use Rattle.std.specs.Prelude.{Some, None}
 use lib.ListN.{length}
 use Rattle.tag.specs.declared.Tag.{Tag as Label}
 use Rattle.tag.specs.Tags.{Tag, is}
 use Rattle.tag.specs.View.{bytes_of, tag_fits}
 use Rattle.model.specs.declared.implicit_model.InputList.{InputList}
 use Rattle.model.specs.declared.implicit_model.Model.{Model as Record}
-use Rattle.model.specs.declared.implicit_model.Place.{Place as PlaceRecord}
 use Rattle.model.specs.Table.{Table, each}
 use Rattle.model.specs.Model.{Place}
 use Rattle.model.specs.Edit.{swap}
-use Rattle.model.specs.View.{place_of, rows, list_of, lists_of, every, place_fits, list_fits}
+use Rattle.model.specs.View.{PlaceRecord, place_of, rows, list_of, lists_of, every, place_fits, list_fits}
 use Rattle.model.proofs.Laws.Valid.{passed, unpassed}
 use Rattle.removing.specs.Swapping.{PlaceSwapped, swap_list, ListSwapped, PlacesSwapped}
 use Rattle.removing.proofs.Laws.Swept.{Swept, swept_end}
 
 -- ---- one place
 
-module _ (t : Tag) (by p : PlaceRecord) where
-  pub swap_hit : p.assigned ≡ true → is (bytes_of p.tag) t ≡ true → PlaceSwapped t by p by
+module _ (t : Tag) (by : PlaceRecord) where
+  pub swap_hit : (u : Label) → is (bytes_of u) t ≡ true → PlaceSwapped t by (Some u) by
   unfolding swap place_of
-  swap_hit a e = record { place = sym (rw (a, e)); fits = λ h k. h }
+  swap_hit u e = record { place = sym (rw e); fits = λ h k. h }
 
-  pub swap_miss : p.assigned ≡ true → is (bytes_of p.tag) t ≡ false → PlaceSwapped t by p p
+  pub swap_miss : (u : Label) → is (bytes_of u) t ≡ false → PlaceSwapped t by (Some u) (Some u)
   unfolding swap place_of
-  swap_miss a e = record { place = rw (a, e); fits = λ h k. k }
+  swap_miss u e = record { place = rw e; fits = λ h k. k }
 
-  pub swap-none : p.assigned ≡ false → PlaceSwapped t by p p
+  pub swap-none : PlaceSwapped t by None None
   unfolding swap place_of
-  swap-none a = record { place = rw a; fits = λ h k. k }
+  swap-none = record { place = refl; fits = λ h k. k }
 
 -- ---- one list
 

@@ -1,25 +1,24 @@
 -- Each way out of `rename_component`. Assumes nothing.
-use mathlib.Core.Path.{◌≡◌, sym, ◌∙◌, ap, subst}
+use mathlib.Core.Path.{◌≡◌, refl, sym, ◌∙◌, ap, subst}
 use mathlib.Core.Bool.{Bool, true, false, not}
 use mathlib.Core.List.{List, []}
-use Prim.Native.Nat.{ℕ, ◌<◌, ◌≤◌}
+use Prim.Native.Nat.{ℕ, ◌≤◌}
 use lib.Dec.{T}
-use lib.ListN.{length, take, get_or, set}
+use lib.ListN.{get_or, set}
+use Rattle.std.specs.Prelude.{Option, Some, None, is_some}
 use Rattle.tag.specs.declared.Tag.{Tag as Label}
 use Rattle.tag.specs.Tags.{Tag, empty, overlong}
-use Rattle.tag.specs.View.{bytes_of, Labelled, Made}
+use Rattle.tag.specs.View.{bytes_of, tag_fits, Labelled}
 use Rattle.component.specs.declared.model_component.Component.{Component}
 use Rattle.model.specs.declared.implicit_model.ComponentEntry.{ComponentEntry}
 use Rattle.model.specs.declared.implicit_model.Model.{Model as Record}
-use Rattle.model.specs.declared.implicit_model.Place.{Place as PlaceRecord}
-use Rattle.held.specs.declared.find.Found.{Found}
-use Rattle.held.specs.declared.find.Found.TheVariants.{At, Nothing}
 use Rattle.model.specs.Table.{Table, held, move}
 use Rattle.model.specs.Model.{Place, Model}
 use Rattle.model.specs.Edit.{rename_component, made, edit, renamed, rename}
-use Rattle.model.specs.View.{place_of, rows, component_of, components_of, lists_of, every, place_fits, entry_fits, view, passes}
+use Rattle.model.specs.View.{PlaceRecord, place_of, rows, component_of, components_of, lists_of, every, place_fits, entry_fits, view, passes}
 use Rattle.held.specs.Search.{Sought}
 use Rattle.model.proofs.Laws.Bool.{true→T}
+use Rattle.model.proofs.Laws.Table.{held-false}
 use Rattle.held.proofs.Laws.Rows.{no_entry}
 use Rattle.held.proofs.Laws.Changes.{Becomes}
 use Rattle.held.proofs.Laws.Standing.{standing}
@@ -28,7 +27,7 @@ use Rattle.edit.specs.Meets.{Meets}
 use Rattle.edit.specs.Ends.{Ends, Refused}
 use Rattle.edit.specs.Rows.{with_entry}
 use Rattle.edit.proofs.Laws.Step.{Step, skip, stop, finish_made, meets_on}
-use Rattle.edit.proofs.Laws.Tests.{long, short, labelled, carrying, taken, free, missing, sought_by, found_row}
+use Rattle.edit.proofs.Laws.Tests.{carrying, taken, free, sought_by, found_row}
 use Rattle.removing.specs.Swapping.{PlacesSwapped}
 use Rattle.removing.proofs.Laws.Holding.{Holds, holds_same, swapped_in, holds_swapped, named, named-fits}
 use Rattle.list_moving.specs.Moving.{Movable, ListMoved}
@@ -37,60 +36,57 @@ use Rattle.renaming.specs.Moving.{entry_under, entry_at, TagMoved}
 
 -- the steps of the change, one after another
 pub tag_moved : {m : Record} {i : ℕ} {t u : Label} {w : Record} (k : Record) → (Movable m t u → ListMoved m (bytes_of t) (bytes_of u) k) → (c : ComponentEntry) → c ≡ entry_under (entry_at m i) u
-    → (n : Record) → n ≡ with_entry k i c → PlacesSwapped (bytes_of t) (record { assigned = true; tag = u }) n w → TagMoved m i t u w
+    → (n : Record) → n ≡ with_entry k i c → PlacesSwapped (bytes_of t) (Some u) n w → TagMoved m i t u w
 tag_moved {m} {i} {t} {u} {w} k a c d n b s = record {
   lists = k;
   moved = a;
-  places = subst (λ (x : Record). PlacesSwapped (bytes_of t) (record { assigned = true; tag = u }) x w) (b ∙ ap (with_entry k i) d) s;
+  places = subst (λ (x : Record). PlacesSwapped (bytes_of t) (Some u) x w) (b ∙ ap (with_entry k i) d) s;
 }
 
 -- the component of t and its list moved to u
 abbrev moved_in : Record → Tag → Tag → Model
 moved_in m t u = record { components = move t u (components_of m); lists = move t u (lists_of m); default = place_of m.default }
 
+-- whether a search found something is whether the tag is held
+searched : {A : Type 0} {r : Table A} {cap : ℕ} {t : Tag} (f : Option ℕ) → Sought r cap t f → is_some f ≡ held t r
+searched (Some i) p = sym (taken p refl)
+searched None p = sym (free p refl)
+
 -- the tags differ, since one is held and the other is not
-movable : (m : Record) → passes m ≡ true → (u : Tag) → length u ≤ 32 → (x y : Label) → Made (take 32 u) y → (f g : Found) → Sought (components_of m) 64 (bytes_of y) f → f ≡ Nothing
-    → Sought (components_of m) 64 (bytes_of x) g → {i : ℕ} → g ≡ At i → Movable m x y
-movable m v u su x y my f g p n q e = record {
-  passing = v;
-  apart = λ z. true→T false (sym (free p n) ∙ (ap (λ (s : Tag). held s (components_of m)) (sym z) ∙ taken q e));
-  short = (labelled {t = u} su my).short;
-}
+movable : (m : Record) → passes m ≡ true → (x y : Label) → tag_fits y ≡ true → held (bytes_of y) (components_of m) ≡ false → held (bytes_of x) (components_of m) ≡ true → Movable m x y
+movable m v x y s n h = record { passing = v; apart = λ z. true→T false (sym n ∙ (ap (λ (s : Tag). held s (components_of m)) (sym z) ∙ h)); short = s }
 
 module _ (m : Record) (t u : Tag) (r : Edited) (v : passes m ≡ true) where
   on : Step (rename (view m) t u) m r → Meets (rename_component t u) m r
   unfolding edit
   on s = meets_on v s
 
-  pub rename_1 : 32 < length t → Refused m 1 [] 0 r → Meets (rename_component t u) m r
+  pub rename_1 : overlong t ≡ true → Refused m 1 [] 0 r → Meets (rename_component t u) m r
   unfolding rename
-  rename_1 h z = on (stop (overlong t) 1 empty 0 _ (long t h) z)
+  rename_1 h z = on (stop (overlong t) 1 empty 0 _ h z)
 
-  module _ (st : length t ≤ 32) where
-    pub rename_1_new : 32 < length u → Refused m 1 [] 0 r → Meets (rename_component t u) m r
+  module _ (st : overlong t ≡ false) where
+    pub rename_1_new : overlong u ≡ true → Refused m 1 [] 0 r → Meets (rename_component t u) m r
     unfolding rename
-    rename_1_new h z = on (skip (overlong t) 1 empty 0 (short t st) (stop (overlong u) 1 empty 0 _ (long u h) z))
+    rename_1_new h z = on (skip (overlong t) 1 empty 0 st (stop (overlong u) 1 empty 0 _ h z))
 
-    module _ (su : length u ≤ 32) (x : Label) (mx : Made (take 32 t) x) (y : Label) (my : Made (take 32 u) y) (f : Found) (p : Sought (components_of m) 64 (bytes_of y) f) where
-      lx : Labelled t x
-      lx = labelled st mx
-
-      ly : Labelled u y
-      ly = labelled su my
-
-      pub rename_11 : {j : ℕ} → f ≡ At j → Refused m 11 (bytes_of y) 0 r → Meets (rename_component t u) m r
+    module _ (su : overlong u ≡ false) (x : Label) (lx : Labelled t x) (y : Label) (ly : Labelled u y) (f : Option ℕ) (p : Sought (components_of m) 64 (bytes_of y) f) where
+      pub rename_11 : is_some f ≡ true → Refused m 11 (bytes_of y) 0 r → Meets (rename_component t u) m r
       unfolding rename view
       rename_11 e z =
-          on (skip (overlong t) 1 empty 0 (short t st) (skip (overlong u) 1 empty 0 (short u su) (stop (held u (components_of m)) 11 u 0 _ (taken (sought_by ly p) e) (carrying ly z))))
+          on (skip (overlong t) 1 empty 0 st (skip (overlong u) 1 empty 0 su (stop (held u (components_of m)) 11 u 0 _ (sym (searched f (sought_by ly p)) ∙ e) (carrying ly z))))
 
-      module _ (n : f ≡ Nothing) (g : Found) (q : Sought (components_of m) 64 (bytes_of x) g) where
-        pub rename_12 : g ≡ Nothing → Refused m 12 (bytes_of x) 0 r → Meets (rename_component t u) m r
+      module _ (n : is_some f ≡ false) (g : Option ℕ) (q : Sought (components_of m) 64 (bytes_of x) g) where
+        fresh : held u (components_of m) ≡ false
+        fresh = sym (searched f (sought_by ly p)) ∙ n
+
+        pub rename_12 : g ≡ None → Refused m 12 (bytes_of x) 0 r → Meets (rename_component t u) m r
         unfolding rename view
         rename_12 e z =
-            on (skip (overlong t) 1 empty 0 (short t st) (skip (overlong u) 1 empty 0 (short u su) (skip (held u (components_of m)) 11 u 0 (free (sought_by ly p) n)
+            on (skip (overlong t) 1 empty 0 st (skip (overlong u) 1 empty 0 su (skip (held u (components_of m)) 11 u 0 fresh
             (stop (not (held t (components_of m))) 12 t 0 _ (ap not (free (sought_by lx q) e)) (carrying lx z)))))
 
-        module _ (i : ℕ) (e : g ≡ At i) where
+        module _ (i : ℕ) (e : g ≡ Some i) where
           module _ (k : Record) (a : ListMoved m (bytes_of x) (bytes_of y) k) where
             there : ListMoved m t u k
             there = subst (λ (s : Tag × Tag). ListMoved m s.0 s.1 k) (λ j. (lx.bytes j, ly.bytes j)) a
@@ -103,7 +99,7 @@ module _ (m : Record) (t u : Tag) (r : Edited) (v : passes m ≡ true) where
                 let s = standing m v in
                 let new = entry_under (get_or m.components i no_entry) y in
                 let b = retag_row component_of entry_fits m.components m.component_count t u s.once s.entries i no_entry new
-                (found_row component_of m.components m.component_count no_entry (sought_by lx q) e) (missing (sought_by ly p) n)
+                (found_row component_of m.components m.component_count no_entry (sought_by lx q) e) (held-false u (components_of m) fresh)
                 (ap (λ (c : Tag). (c, (get_or m.components i no_entry).component)) ly.bytes) (true→T _ ly.short) in
                 let C : Becomes (move t u (components_of m)) (rows component_of k.component_count (set k.components i new)) =
                 subst (λ (c : Table Component). Becomes (move t u (components_of m)) c) (rows-kept component_of new) b.becomes in
@@ -125,13 +121,12 @@ module _ (m : Record) (t u : Tag) (r : Edited) (v : passes m ≡ true) where
           pub rename-done : (w : Record) → TagMoved m i x y w → Ends (made (bytes_of y)) w r → Meets (rename_component t u) m r
           unfolding rename view
           rename-done w s z =
-              let by : PlaceRecord = record { assigned = true; tag = y } in
               let k = s.lists in
               let o = with_entry k i (entry_under (get_or m.components i no_entry) y) in
               let h : Holds (renamed (view m) t u) w =
               subst (λ (c : Place). Holds (swapped_in t c (moved_in m t u)) w) (named ly)
-              (holds_swapped t by (named-fits ly) o w (subst (λ (c : Tag). PlacesSwapped c by o w) lx.bytes s.places) (moved_in m t u)
-              (both k (s.moved (movable m v u su x y my f g p n q e)))) in
-              on (skip (overlong t) 1 empty 0 (short t st) (skip (overlong u) 1 empty 0 (short u su) (skip (held u (components_of m)) 11 u 0 (free (sought_by ly p) n)
+              (holds_swapped t (Some y) (named-fits ly) o w (subst (λ (c : Tag). PlacesSwapped c (Some y) o w) lx.bytes s.places) (moved_in m t u)
+              (both k (s.moved (movable m v x y ly.short (sym (searched f p) ∙ n) (taken q e))))) in
+              on (skip (overlong t) 1 empty 0 st (skip (overlong u) 1 empty 0 su (skip (held u (components_of m)) 11 u 0 fresh
               (skip (not (held t (components_of m))) 12 t 0 (ap not (taken (sought_by lx q) e))
               (finish_made (subst (λ (c : Tag). Ends (made c) w r) ly.bytes z) (holds_same h) h.stands)))))

@@ -1,25 +1,25 @@
 -- Each way out of `set_parameter`. Assumes nothing.
-use mathlib.Core.Path.{◌≡◌, sym, ◌∙◌, ap, subst}
-use mathlib.Core.Bool.{true}
+use Rattle.std.specs.Prelude.{Option, Some, None, Ok, Err}
+use mathlib.Core.Path.{◌≡◌, sym, ap, subst}
+use mathlib.Core.Bool.{true, false}
 use mathlib.Core.List.{[]}
-use mathlib.Core.Option.{Option, none, some}
-use Prim.Native.Nat.{ℕ, ◌<◌, ◌≤◌}
-use lib.ListN.{length, get_or, take}
+use mathlib.Core.Option.{Option as Maybe, none, some}
+use Prim.Native.Nat.{ℕ}
+use lib.ListN.{get_or}
 use Rattle.tag.specs.declared.Tag.{Tag as Label}
 use Rattle.tag.specs.Tags.{Tag, empty, overlong}
-use Rattle.tag.specs.View.{bytes_of, tag_fits, Labelled, Made}
-use Rattle.component.specs.Parameter.{Name, set_parameter as parameterSet}
+use Rattle.tag.specs.View.{bytes_of, tag_fits, Labelled}
+use Rattle.component.specs.Parameter.{Name, set_parameter as parameterSet, Setting}
 use Rattle.component.specs.declared.parameter.Data.{Data}
-use Rattle.component.specs.declared.model_component.Setting.{Setting}
-use Rattle.component.specs.declared.model_component.Setting.TheVariants.{Changed, DoesNotFit, TooNear}
+use Rattle.component.specs.declared.parameter.ParameterError.{ParameterError}
+use Rattle.component.specs.declared.parameter.ParameterError.TheVariants.{DoesNotFit, TooNear}
 use Rattle.component.specs.declared.model_component.Component.{Component}
 use Rattle.model.specs.declared.implicit_model.ComponentEntry.{ComponentEntry}
 use Rattle.model.specs.declared.implicit_model.Model.{Model as Record}
-use Rattle.held.specs.declared.find.Found.{Found}
-use Rattle.held.specs.declared.find.Found.TheVariants.{At, Nothing}
 use Rattle.model.specs.Model.{component}
 use Rattle.model.specs.Edit.{set_parameter, done, edit, set_at, set_in, settle}
 use Rattle.model.specs.View.{component_of, components_of, entry_fits, view, passes}
+use Rattle.model.specs.Answer.{number_of, unsettled}
 use Rattle.held.specs.Search.{Sought}
 use Rattle.model.proofs.Laws.Bool.{true→T}
 use Rattle.held.proofs.Laws.Search.{RowAt}
@@ -29,7 +29,7 @@ use Rattle.edit.specs.Meets.{Meets}
 use Rattle.edit.specs.Ends.{Ends, Refused}
 use Rattle.edit.specs.Rows.{with_entry}
 use Rattle.edit.proofs.Laws.Step.{Step, refusal, skip, stop, finish_done, meets_on}
-use Rattle.edit.proofs.Laws.Tests.{long, short, labelled, carrying, missing, sought_by, found_row}
+use Rattle.edit.proofs.Laws.Tests.{carrying, missing, sought_by, found_row}
 use Rattle.edit.proofs.Laws.Stored.{over_row, entry_stands, entry-same}
 
 module _ (m : Record) (t : Tag) (n : Name) (x : Data) (r : Edited) (v : passes m ≡ true) where
@@ -37,23 +37,20 @@ module _ (m : Record) (t : Tag) (n : Name) (x : Data) (r : Edited) (v : passes m
   unfolding edit
   on s = meets_on v s
 
-  pub set_1 : 32 < length t → Refused m 1 [] 0 r → Meets (set_parameter t n x) m r
+  pub set_1 : overlong t ≡ true → Refused m 1 [] 0 r → Meets (set_parameter t n x) m r
   unfolding set_at
-  set_1 h z = on (stop (overlong t) 1 empty 0 _ (long t h) z)
+  set_1 h z = on (stop (overlong t) 1 empty 0 _ h z)
 
-  module _ (st : length t ≤ 32) (u : Label) (made : Made (take 32 t) u) (f : Found) (q : Sought (components_of m) 64 (bytes_of u) f) where
-    lt : Labelled t u
-    lt = labelled st made
-
-    into : (o : Option Component) → component (view m) t ≡ o → Step (set_in (view m) t n x o) m r → Meets (set_parameter t n x) m r
+  module _ (st : overlong t ≡ false) (u : Label) (lt : Labelled t u) (f : Option ℕ) (q : Sought (components_of m) 64 (bytes_of u) f) where
+    into : (o : Maybe Component) → component (view m) t ≡ o → Step (set_in (view m) t n x o) m r → Meets (set_parameter t n x) m r
     unfolding set_at
-    into o e s = on (skip (overlong t) 1 empty 0 (short t st) (subst (λ (c : Option Component). Step (set_in (view m) t n x c) m r) (sym e) s))
+    into o e s = on (skip (overlong t) 1 empty 0 st (subst (λ (c : Maybe Component). Step (set_in (view m) t n x c) m r) (sym e) s))
 
-    pub set_12 : f ≡ Nothing → Refused m 12 (bytes_of u) 0 r → Meets (set_parameter t n x) m r
+    pub set_12 : f ≡ None → Refused m 12 (bytes_of u) 0 r → Meets (set_parameter t n x) m r
     unfolding view
     set_12 e z = into none (missing (sought_by lt q) e) (refusal (carrying lt z))
 
-    module _ (i : ℕ) (e : f ≡ At i) (d : ComponentEntry) where
+    module _ (i : ℕ) (e : f ≡ Some i) (d : ComponentEntry) where
       at : RowAt component_of m.components m.component_count i t d
       at = found_row component_of m.components m.component_count d (sought_by lt q) e
 
@@ -61,18 +58,16 @@ module _ (m : Record) (t : Tag) (n : Name) (x : Data) (r : Edited) (v : passes m
       unfolding view
       settled o p s = into (some (get_or m.components i d).component) at.entry (subst (λ (y : Setting). Step (settle (view m) t y) m r) p s)
 
-      module _ (o : Setting) (p : o ≡ parameterSet (get_or m.components i d).component n x) where
-        pub set_4 : o ≡ DoesNotFit → Refused m 4 (bytes_of u) 0 r → Meets (set_parameter t n x) m r
-        set_4 y z = settled DoesNotFit (sym y ∙ p) (refusal (carrying lt z))
+      -- 4 or 5
+      pub set_refused : (p : ParameterError) → Err p ≡ parameterSet (get_or m.components i d).component n x → Refused m (number_of (unsettled p)) (bytes_of u) 0 r → Meets (set_parameter t n x) m r
+      set_refused DoesNotFit y z = settled (Err DoesNotFit) y (refusal (carrying lt z))
+      set_refused TooNear y z = settled (Err TooNear) y (refusal (carrying lt z))
 
-        pub set_5 : o ≡ TooNear → Refused m 5 (bytes_of u) 0 r → Meets (set_parameter t n x) m r
-        set_5 y z = settled TooNear (sym y ∙ p) (refusal (carrying lt z))
-
-        pub set-done : (c : Component) → o ≡ Changed c → Ends done (with_entry m i (record { tag = u; component = c })) r → Meets (set_parameter t n x) m r
-        unfolding view
-        set-done c y z =
-            let g = standing m v in
-            let row : ComponentEntry = record { tag = u; component = c } in
-            let s = over_row component_of entry_fits m.components m.component_count t c row (ap (λ (b : Tag). (b, c)) lt.bytes) (true→T (tag_fits u) lt.short)
-            g.once g.entries i d at in
-            settled (Changed c) (sym y ∙ p) (finish_done z (entry-same m g i row s) (entry_stands m g i row s))
+      pub set-done : (c : Component) → Ok c ≡ parameterSet (get_or m.components i d).component n x → Ends done (with_entry m i (record { tag = u; component = c })) r → Meets (set_parameter t n x) m r
+      unfolding view
+      set-done c y z =
+          let g = standing m v in
+          let row : ComponentEntry = record { tag = u; component = c } in
+          let s = over_row component_of entry_fits m.components m.component_count t c row (ap (λ (b : Tag). (b, c)) lt.bytes) (true→T (tag_fits u) lt.short)
+          g.once g.entries i d at in
+          settled (Ok c) y (finish_done z (entry-same m g i row s) (entry_stands m g i row s))

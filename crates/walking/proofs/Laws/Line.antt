@@ -1,7 +1,7 @@
 -- The walk in the code, step by step. Assumes nothing.
 use mathlib.Core.Path.{◌≡◌, refl, sym, ◌∙◌, ap, subst}
 use mathlib.Core.Logic.{◌≢◌}
-use mathlib.Core.Bool.{Bool, true, false, cond, ◌||◌}
+use mathlib.Core.Bool.{Bool, true, false, ◌||◌}
 use mathlib.Core.List.{List, [], ◌∷◌}
 use mathlib.Core.Option.{none, some}
 use Prim.Native.Nat.{ℕ, zero, suc, ◌+◌, ◌<◌, ◌≤◌}
@@ -9,30 +9,29 @@ use native.Mathlib.Nat.{not-suc-le-zero, le_of_suc-le-suc, add_comm}
 use native.Mathlib.Numerals.{add-one}
 use native.Mathlib.Omega.{arith}
 use lib.Dec.{T}
-use lib.ListN.{length, get_or, set, take, drop, replicate, length-take, length-replicate, drop_of_length-le}
+use lib.ListN.{length, get_or, get_or-map, length-map, set, take, drop, replicate, length-take, length-replicate, drop_of_length-le}
 use lib.Seq.{get_or-set_same, get_or-set_other, get_or-take, drop-cons, take-suc-set, drop-append-le}
+use Rattle.tag.specs.declared.Tag.{Tag as Label}
 use Rattle.tag.specs.Tags.{Tag, is}
 use Rattle.tag.specs.View.{bytes_of}
 use Rattle.tag.proofs.Laws.Is.{is_refl, is_true, is_false}
 use Rattle.model.specs.declared.implicit_model.Model.{Model as Record}
 use Rattle.model.specs.declared.implicit_model.InputList.{InputList}
-use Rattle.model.specs.declared.implicit_model.Place.{Place as PlaceRecord}
 use Rattle.model.specs.Table.{Table, find, distinct}
 use Rattle.model.specs.Model.{Place}
-use Rattle.model.specs.View.{place_of, rows, list_of, lists_of, view, passes}
+use Rattle.model.specs.View.{PlaceRecord, place_of, rows, list_of, lists_of, view, passes}
 use Rattle.model.specs.Walk.{Walked, clear, met, gapped, walk, walk_from, total}
 use Rattle.held.proofs.Laws.Rows.{rows-length, rows_at}
-use Rattle.held.specs.declared.find.Found.{Found}
-use Rattle.held.specs.declared.find.Found.TheVariants.{At}
+use Rattle.std.specs.Prelude.{Option, Some, None, Result, Ok, Err}
 use Rattle.held.specs.Search.{Sought}
 use Rattle.held.proofs.Laws.Search.{row}
 use Rattle.held.proofs.Laws.Changes.{find_at, rows_apart}
 use Rattle.held.proofs.Laws.Standing.{standing}
 use Rattle.model.proofs.Theorems.Walk.{walk_ends}
 use Rattle.walking.specs.declared.Line.{Line}
-use Rattle.walking.specs.Walking.{Row, Counted, started, pushed, Joined, absent, again, joins, Walkable, Startable, tag_at, Walks, Wires, Says, says-clear, says_met, says_gap}
-use Rattle.walking.specs.declared.Ended.{Ended}
-use Rattle.walking.specs.declared.Ended.TheVariants.{Clear, Met, Gap}
+use Rattle.walking.specs.Walking.{Row, Counted, started, pushed, Joined, absent, again, joins, Walkable, Startable, tag_at, Walks, Wires, Says}
+use Rattle.walking.specs.declared.Blocked.{Blocked}
+use Rattle.walking.specs.declared.Blocked.TheVariants.{Target, Gap}
 use Rattle.walking.proofs.Laws.Walk.{nothing, present, Waits, Scans, walk-nil, absent_turn, waits_end, waits_first, scans_gap, scans_end, scans_absent, scans_again, scans_joins}
 use Rattle.walking.proofs.Laws.Marks.{marks_few, marks-more}
 use Rattle.walking.proofs.Laws.Sound.{get_d_false, counted_start, counted-pushed}
@@ -154,48 +153,50 @@ module _ (m : Record) (target from : ℕ) (w : Walkable m target from) where
     places = rows place_of l.count l.places
 
     -- the turn is over
-    pub scanning_end : length (rows place_of l.count l.places) ≤ i → Going m target from line (head + 1)
-    unfolding view
-    scanning_end h = record {
+    pub scanning_end : (items : List PlaceRecord) → items ≡ take l.count l.places → length items ≤ i → Going m target from line (head + 1)
+    unfolding view rows
+    scanning_end items live h = record {
       counted = s.counted;
       reached = omega (arith, s.reached);
       waits = subst (λ (n : ℕ). Waits (view m) (tag_at (lists_of m) target) (answer m target from) line.seen (drop n (take line.tail line.rows))) (sym (add-one head))
           (scans_end (view m) (tag_at (lists_of m) target) (answer m target from) (row_found (lists_of m) once) listed (bytes_of l.tag) i
           (subst (λ (ps : List Place). Scans (view m) (tag_at (lists_of m) target) (answer m target from) (bytes_of l.tag) i ps line.seen (drop (suc head) (take line.tail line.rows)))
-          (drop_of_length-le (rows place_of l.count l.places) {i = i} h) s.scans));
+          (drop_of_length-le (rows place_of l.count l.places) {i = i} (omega (arith, h, ap length live, length-map (take l.count l.places) place_of))) s.scans));
     }
 
-    module _ (d : PlaceRecord) (h : i < length (rows place_of l.count l.places)) where
-      at : {o : Place} → place_of (get_or l.places i d) ≡ o
+    module _ (items : List PlaceRecord) (live : items ≡ take l.count l.places) (h : i < length items) (d : PlaceRecord) {p : PlaceRecord} (e : get_or items i d ≡ p) where
+      within : i < length (rows place_of l.count l.places)
+      unfolding rows
+      within = omega (arith, h, ap length live, length-map (take l.count l.places) place_of)
+
+      at : {o : Place} → place_of p ≡ o
           → Scans (view m) (tag_at (lists_of m) target) (answer m target from) (bytes_of l.tag) i (o ∷ drop (suc i) (rows place_of l.count l.places))
           line.seen (drop (suc head) (take line.tail line.rows))
-      at e = subst (λ (ps : List Place). Scans (view m) (tag_at (lists_of m) target) (answer m target from) (bytes_of l.tag) i ps line.seen (drop (suc head) (take line.tail line.rows)))
-          (drop-cons (rows place_of l.count l.places) i (place_of d) h
-          ∙ ap (λ (o : Place). o ∷ drop (suc i) (rows place_of l.count l.places)) (rows_at place_of l.places l.count i d h ∙ e)) s.scans
+      unfolding rows
+      at q = subst (λ (ps : List Place). Scans (view m) (tag_at (lists_of m) target) (answer m target from) (bytes_of l.tag) i ps line.seen (drop (suc head) (take line.tail line.rows)))
+          (drop-cons (rows place_of l.count l.places) i (place_of d) within
+          ∙ ap (λ (o : Place). o ∷ drop (suc i) (rows place_of l.count l.places))
+          (get_or-map place_of (take l.count l.places) i d ∙ (ap (λ (xs : List PlaceRecord). place_of (get_or xs i d)) (sym live) ∙ (ap place_of e ∙ q)))) s.scans
 
-      pub scanning_gap : (get_or l.places i d).assigned ≡ false → answer m target from ≡ gapped (bytes_of l.tag) i
+      pub scanning_gap : p ≡ None → answer m target from ≡ gapped (bytes_of l.tag) i
       unfolding view place_of
-      scanning_gap e =
-          scans_gap (view m) (tag_at (lists_of m) target) (answer m target from) (row_found (lists_of m) once) listed (bytes_of l.tag) i
-          (at (ap (λ (b : Bool). cond b (some (bytes_of (get_or l.places i d).tag)) none) e))
+      scanning_gap q =
+          scans_gap (view m) (tag_at (lists_of m) target) (answer m target from) (row_found (lists_of m) once) listed (bytes_of l.tag) i (at (ap place_of q))
 
       -- an assigned place: its tag joins the line, or not
-      pub scanning_next : (get_or l.places i d).assigned ≡ true → (v : Line) → Joined (lists_of m) (bytes_of (get_or l.places i d).tag) line v → Scanning m target from v head r l (i + 1)
+      pub scanning_next : (t : Label) → p ≡ Some t → (v : Line) → Joined (lists_of m) (bytes_of t) line v → Scanning m target from v head r l (i + 1)
       unfolding view place_of
-      scanning_next e v j = rw add-one (go j)
+      scanning_next t q v j = rw add-one (go j)
         where
-          u : Tag
-          u = bytes_of (get_or l.places i d).tag
-
-          here : Scans (view m) (tag_at (lists_of m) target) (answer m target from) (bytes_of l.tag) i (some (bytes_of (get_or l.places i d).tag) ∷ drop (suc i) (rows place_of l.count l.places))
+          here : Scans (view m) (tag_at (lists_of m) target) (answer m target from) (bytes_of l.tag) i (some (bytes_of t) ∷ drop (suc i) (rows place_of l.count l.places))
               line.seen (drop (suc head) (take line.tail line.rows))
-          here = at (ap (λ (b : Bool). cond b (some (bytes_of (get_or l.places i d).tag)) none) e)
+          here = at (ap place_of q)
 
           same : Scans (view m) (tag_at (lists_of m) target) (answer m target from) (bytes_of l.tag) (suc i) (drop (suc i) (rows place_of l.count l.places))
               line.seen (drop (suc head) (take line.tail line.rows)) → v ≡ line → Scanning m target from v head r l (suc i)
           same x p = subst (λ (y : Line). Scanning m target from y head r l (suc i)) (sym p) (record { counted = s.counted; reached = s.reached; row = s.row; scans = x })
 
-          more : (q : ℕ) (k : List Place) → Row (lists_of m) q (bytes_of (get_or l.places i d).tag) k → get_or line.seen q false ≡ false → Scanning m target from (pushed line q) head r l (suc i)
+          more : (q : ℕ) (k : List Place) → Row (lists_of m) q (bytes_of t) k → get_or line.seen q false ≡ false → Scanning m target from (pushed line q) head r l (suc i)
           more q k x f =
               let c = s.counted in
               let room = marks-more line.seen q (omega (arith, x.within, rows-length list_of m.lists m.list_count, (standing m w.passing).few_lists, c.seen)) f in
@@ -211,7 +212,7 @@ module _ (m : Record) (target from : ℕ) (w : Walkable m target from) where
                     (omega (arith, x.within, rows-length list_of m.lists m.list_count, (standing m w.passing).few_lists, c.seen)) f);
               }
 
-          go : Joined (lists_of m) (bytes_of (get_or l.places i d).tag) line v → Scanning m target from v head r l (suc i)
+          go : Joined (lists_of m) (bytes_of t) line v → Scanning m target from v head r l (suc i)
           go (absent n p) = same (scans_absent (view m) (tag_at (lists_of m) target) (answer m target from) (row_found (lists_of m) once) listed (bytes_of l.tag) i here n) p
           go (again x f p) = same (scans_again (view m) (tag_at (lists_of m) target) (answer m target from) (row_found (lists_of m) once) listed (bytes_of l.tag) i here x f) p
           go (joins {q} {l = k} x f p) = subst (λ (y : Line). Scanning m target from y head r l (suc i)) (sym p) (more q k x f)
@@ -247,57 +248,35 @@ module _ (m : Record) (target from : ℕ) (w : Walkable m target from) where
 
 -- ---- a list found
 
-pub sought_row : {table : Table (List Place)} {cap i : ℕ} {t : Tag} {f : Found} → Sought table cap t f → f ≡ At i → Row table i t (get_or table i ([], [])).1
+pub sought_row : {table : Table (List Place)} {cap i : ℕ} {t : Tag} {f : Option ℕ} → Sought table cap t f → f ≡ Some i → Row table i t (get_or table i ([], [])).1
 sought_row {table} {i = i} p e =
     let w = row ([], []) table (sym p.at ∙ e) in
     record { within = w.within; entry = λ d. get_d_any table i d ([], []) w.within ∙ (λ j. (w.tag j, (get_or table i ([], [])).1)) }
 
--- ---- how it ended
-
-module _ (m : Record) (target from : ℕ) where
-  pub ended_clear : {e : Ended} → e ≡ Clear → answer m target from ≡ clear → Walks m target from e
-  ended_clear {e} p q =
-      subst (λ (x : Ended). Says (lists_of m) x (answer m target from)) (sym p) (subst (λ (a : Walked). Says (lists_of m) Clear a) (sym q) says-clear)
-
-  pub ended_met : answer m target from ≡ met → Walks m target from Met
-  ended_met q = subst (λ (a : Walked). Says (lists_of m) Met a) (sym q) says_met
-
-  pub ended_gap : {r i : ℕ} {t : Tag} {l : List Place} → Row (lists_of m) r t l → answer m target from ≡ gapped t i → Walks m target from (Gap r i)
-  ended_gap {r} {i} x q = subst (λ (a : Walked). Says (lists_of m) (Gap r i) a) (sym q) (says_gap x)
-
 -- ---- from a tag
 
 -- a tag without a list is not the target, and has no inputs
-pub wires-absent : (m : Record) (target : ℕ) (s : Tag) → Startable m target → find s (lists_of m) ≡ none → Wires m target s Clear
+pub wires-absent : (m : Record) (target : ℕ) (s : Tag) → Startable m target → find s (lists_of m) ≡ none → walk_from (view m) (tag_at (lists_of m) target) s ≡ clear
 unfolding view walk_from
 wires-absent m target s w e =
     let once = (standing m w.passing).once-lists in
     let t = tag_at (lists_of m) target in
     let listed : find t (lists_of m) ≢ none = λ n.
     absurd (let z : ◌≡◌ {A = ℕ} 0 1 = cc (n, row_found (lists_of m) once target _ _ (row_tag_at (lists_of m) target w.ends)) in let y : ⊥ = omega arith in y) in
-    subst (λ (a : Walked). Says (lists_of m) Clear a)
-    (sym (absent_turn (view m) t clear (row_found (lists_of m) once) listed (suc (total (lists_of m))) s (s ∷ []) [] e ∙ walk-nil (suc (total (lists_of m))) (view m) t (s ∷ []))) says-clear
+    absent_turn (view m) t clear (row_found (lists_of m) once) listed (suc (total (lists_of m))) s (s ∷ []) [] e ∙ walk-nil (suc (total (lists_of m))) (view m) t (s ∷ [])
 
 -- a tag with a list is walked from its row
-pub wires_row : (m : Record) (target q : ℕ) (s : Tag) {l : List Place} {e : Ended} → Row (lists_of m) q s l → Walks m target q e → Wires m target s e
-wires_row m target q s {e = e} x h =
+pub wires_row : (m : Record) (target q : ℕ) (s : Tag) {l : List Place} {A : Type 0} (e : Result A Blocked) → Row (lists_of m) q s l → Walks m target q e → Wires m target s e
+wires_row m target q s e x h =
     subst (λ (u : Tag). Says (lists_of m) e (walk_from (view m) (tag_at (lists_of m) target) u)) (ap (λ (y : Tag × List Place). y.0) (x.entry ([], []))) h
 
 -- what an ending says
-pub said_clear : (lists : Table (List Place)) (e : Ended) (a : Walked) → Says lists e a → e ≡ Clear → a ≡ clear
-said_clear lists e a says-clear p = refl
-said_clear lists e a says_met p = absurd (let z : ◌≡◌ {A = ℕ} 0 1 = cc in let y : ⊥ = omega arith in y)
-said_clear lists e a (says_gap x) p = absurd (let z : ◌≡◌ {A = ℕ} 0 1 = cc in let y : ⊥ = omega arith in y)
+module _ {A : Type 0} (lists : Table (List Place)) (e : Result A Blocked) (a : Walked) (s : Says lists e a) where
+  pub said_clear : {u : A} → e ≡ Ok u → a ≡ clear
+  said_clear p = subst (λ (x : Result A Blocked). Says lists x a) p s
 
-pub said_met : (lists : Table (List Place)) (e : Ended) (a : Walked) → Says lists e a → e ≡ Met → a ≡ met
-said_met lists e a says_met p = refl
-said_met lists e a says-clear p = absurd (let z : ◌≡◌ {A = ℕ} 0 1 = cc in let y : ⊥ = omega arith in y)
-said_met lists e a (says_gap x) p = absurd (let z : ◌≡◌ {A = ℕ} 0 1 = cc in let y : ⊥ = omega arith in y)
+  pub said_met : e ≡ Err Target → a ≡ met
+  said_met p = subst (λ (x : Result A Blocked). Says lists x a) p s
 
-pub said_gap : (lists : Table (List Place)) (e : Ended) (a : Walked) (r i : ℕ) → Says lists e a → e ≡ Gap r i → (t : Tag) × (l : List Place) × Row lists r t l × (a ≡ gapped t i)
-said_gap lists e a r i (says_gap {r = q} {i = j} {t = t} {l = l} x) p =
-    let qr : q ≡ r = cc in
-    let ji : j ≡ i = cc in
-    (t, l, subst (λ (n : ℕ). Row lists n t l) qr x, ap (gapped t) ji)
-said_gap lists e a r i says-clear p = absurd (let z : ◌≡◌ {A = ℕ} 0 1 = cc in let y : ⊥ = omega arith in y)
-said_gap lists e a r i says_met p = absurd (let z : ◌≡◌ {A = ℕ} 0 1 = cc in let y : ⊥ = omega arith in y)
+  pub said_gap : {r i : ℕ} → e ≡ Err (Gap r i) → (t : Tag) × (l : List Place) × Row lists r t l × (a ≡ gapped t i)
+  said_gap p = subst (λ (x : Result A Blocked). Says lists x a) p s

@@ -1,19 +1,18 @@
 -- `walking::walk` meets its contract. Assumes nothing.
-use mathlib.Core.Path.{◌≡◌}
-use Prim.Native.Nat.{◌≤◌, ◌-◌}
-use Rattle.walking.specs.declared.Ended.TheVariants.{Clear}
-use Rattle.walking.specs.Walking.{Sound, Walkable}
+use Prim.Native.Nat.{◌-◌}
+use lib.ListN.{get_or}
+use Rattle.model.specs.View.{lists_of}
+use Rattle.model.specs.Walk.{clear}
+use Rattle.held.proofs.Laws.Rows.{no_list}
+use Rattle.walking.specs.Walking.{Sound, Walkable, Says}
 use Rattle.walking.proofs.Laws.Line.{Going, Scanning}
 use Rattle.walking.proofs.walk.Given as goal
 
 abbrev pub invariant-loop-i : goal.invariant-loop-i
-invariant-loop-i l = Sound l.line × (l.line.tail ≤ 128) × (Walkable l.m l.target l.from → Scanning l.m l.target l.from l.line l.head l.r l.l l.i) × (l.i ≤ l.n) × (l.end ≡ Clear)
-
-abbrev pub decreases-loop-i : goal.decreases-loop-i
-decreases-loop-i l = l.n - l.i
+invariant-loop-i l = Sound l.line × (Walkable l.m l.target l.from → Scanning l.m l.target l.from l.line l.head l.row (get_or l.m.lists l.row no_list) l.i) × Says (lists_of l.m) l.end clear
 
 abbrev pub invariant-walk : goal.invariant-walk
-invariant-walk l = Sound l.line × (l.line.tail ≤ 128) × (Walkable l.m l.target l.from → Going l.m l.target l.from l.line l.head) × (l.end ≡ Clear)
+invariant-walk l = Sound l.line × (Walkable l.m l.target l.from → Going l.m l.target l.from l.line l.head) × Says (lists_of l.m) l.end clear
 
 abbrev pub decreases-walk : goal.decreases-walk
 decreases-walk l = 128 - l.head

@@ -4,6 +4,7 @@ use mathlib.Core.Path.{refl}
 use Rattle.tag.specs.View.{bytes_of}
 use Rattle.model.specs.Edit.{swap}
 use Rattle.model.specs.View.{place_of, place_fits}
+use Rattle.held.proofs.Laws.Rows.{rows-live}
 use Rattle.removing.proofs.Laws.Swept.{swept_start, swept_step}
 use Rattle.removing.proofs.Laws.Swapping.{list_swapped}
 use Rattle.removing.proofs.swapping.list_swapped.Goals as goal
@@ -15,12 +16,14 @@ loop-i-init c =
 pub loop-i-preserved : goal.loop-i-preserved
 loop-i-preserved c =
     let a = c.args in
+    let live = rows-live place_of a.l.places a.l.count 3 c.live_places-places.ensures.rows c.live_places-places.ensures.bound in
     let v = c.loop-i.invariant in
-    let x = c.place_swapped-q.ensures in
-    (v.0, v.1, swept_step place_of (swap (bytes_of a.t) (place_of a.by)) place_fits (place_fits a.by) a.l.count a.l.places c.loop-i.w.places c.loop-i.i _ c.place_swapped-q.result v.2 (omega arith) x.place x.fits)
+    let x = c.place_swapped.ensures in
+    (v.0, v.1, swept_step place_of (swap (bytes_of a.t) (place_of a.by)) place_fits (place_fits a.by) a.l.count a.l.places c.loop-i.w.places c.loop-i.i _ c.place_swapped.result v.2 (omega (arith, live.live)) x.place x.fits)
 
 pub returns : goal.returns
 returns c =
     let a = c.args in
+    let live = rows-live place_of a.l.places a.l.count 3 c.live_places-places.ensures.rows c.live_places-places.ensures.bound in
     let v = c.loop-i.invariant in
-    list_swapped (bytes_of a.t) a.by a.l c.loop-i.w c.loop-i.i v.0 v.1 v.2 (omega arith)
+    list_swapped (bytes_of a.t) a.by a.l c.loop-i.w c.loop-i.i v.0 v.1 v.2 (omega (arith, live.live))

@@ -4,11 +4,11 @@ use Rattle.tag.specs.View.{bytes_of}
 use Rattle.removing.proofs.Laws.Swapping.{swap_hit, swap_miss, swap-none}
 use Rattle.removing.proofs.swapping.place_swapped.Goals as goal
 
-pub returns-then-same_tag : goal.returns-then-same_tag
-returns-then-same_tag c = let a = c.args in swap_hit (bytes_of a.t) a.by a.p c.if-p.true (sym c.same_tag.ensures ∙ c.if-same_tag.true)
+pub returns-in-Some : goal.returns-in-Some
+returns-in-Some c = let a = c.args in rw c.in-Some.is (swap_hit (bytes_of a.t) a.by c.in-Some.u (sym (rw c.in-Some.is at c.eq.ensures) ∙ c.if-eq.true))
 
-pub returns-then-p : goal.returns-then-p
-returns-then-p c = let a = c.args in swap_miss (bytes_of a.t) a.by a.p c.if-p.true (sym c.same_tag.ensures ∙ c.if-same_tag.false)
+pub returns-in_default : goal.returns-in_default
+returns-in_default c = let a = c.args in rw c.in-Some.is (swap_miss (bytes_of a.t) a.by c.in-Some.u (sym (rw c.in-Some.is at c.eq.ensures) ∙ c.if-eq.false))
 
-pub returns : goal.returns
-returns c = let a = c.args in swap-none (bytes_of a.t) a.by a.p c.if-p.false
+pub returns-in_default-2 : goal.returns-in_default-2
+returns-in_default-2 c = rw c.in_default.is (swap-none (bytes_of c.args.t) c.args.by)

@@ -1,0 +1,44 @@
+-- `wiring::add` meets its contract. Assumes nothing.
+use mathlib.Core.Path.{◌∙◌, ap}
+use Rattle.model.specs.Answer.{refusal_of}
+use Rattle.edit.proofs.Laws.Step.{handed_on, becomes, none_refused, meets_7}
+use Rattle.wiring.proofs.Laws.Wiring.{add_1, add_1_source, add_12, add_12_source, add-held, add-wired}
+use Rattle.wiring.proofs.add.Goals as goal
+
+pub returns-in_err-check : goal.returns-in_err-check
+returns-in_err-check c = meets_7 c.in_err-check.ensures.0 (handed_on _ c.from_residual.ensures.1 c.in_err-check.ensures.1)
+
+pub returns-in_err-target : goal.returns-in_err-target
+returns-in_err-target c =
+    let a = c.args in add_1 a.m.now a.target.now a.source.now a.index c.in_ok-check.ensures c.in_err-target.ensures (becomes c.from_residual-in_err-target.ensures.1)
+
+pub returns-in_err-source : goal.returns-in_err-source
+returns-in_err-source c =
+    let a = c.args in
+    add_1_source a.m.now a.target.now a.source.now a.index c.in_ok-check.ensures c.in_ok-target.ensures.0 c.in_err-source.ensures (becomes c.from_residual-in_err-source.ensures.1)
+
+pub returns-in_err-ok_or : goal.returns-in_err-ok_or
+returns-in_err-ok_or c =
+    let a = c.args in
+    add_12 a.m.now a.target.now a.source.now a.index c.in_ok-check.ensures c.in_ok-target.ensures.0 c.in_ok-source.ensures.0 _ c.in_ok-target.ensures.1.labelled _ c.in_ok-source.ensures.1.labelled
+    _ c.find_component.ensures c.in_err-ok_or.ensures.ok_part
+    (handed_on _ c.from_residual-in_err-ok_or.ensures.1 (ap refusal_of (none_refused _ _ _ c.in_err-ok_or.ensures.value) ∙ c.of.ensures))
+
+pub returns-in_err-ok_or-2 : goal.returns-in_err-ok_or-2
+returns-in_err-ok_or-2 c =
+    let a = c.args in
+    add_12_source a.m.now a.target.now a.source.now a.index c.in_ok-check.ensures c.in_ok-target.ensures.0 c.in_ok-source.ensures.0 _ c.in_ok-target.ensures.1.labelled _ c.in_ok-source.ensures.1.labelled
+    _ c.find_component.ensures c.in_ok-ok_or.ensures.ok_part _ c.find_component-2.ensures c.in_err-ok_or-2.ensures.ok_part
+    (handed_on _ c.from_residual-in_err-ok_or-2.ensures.1 (ap refusal_of (none_refused _ _ _ c.in_err-ok_or-2.ensures.value) ∙ c.of-2.ensures))
+
+pub wire-requires : goal.wire-requires
+wire-requires c =
+    let a = c.args in
+    add-held a.m.now a.target.now a.source.now a.index c.in_ok-check.ensures c.in_ok-target.ensures.0 c.in_ok-source.ensures.0 _ c.in_ok-target.ensures.1.labelled _ c.in_ok-source.ensures.1.labelled
+    _ c.find_component.ensures c.in_ok-ok_or.ensures.ok_part _ c.find_component-2.ensures c.in_ok-ok_or-2.ensures.ok_part
+
+pub returns : goal.returns
+returns c =
+    let a = c.args in
+    add-wired a.m.now a.target.now a.source.now a.index c.in_ok-check.ensures c.in_ok-target.ensures.0 c.in_ok-source.ensures.0 _ c.in_ok-target.ensures.1.labelled _ c.in_ok-source.ensures.1.labelled
+    _ c.find_component.ensures c.wire.ensures
