@@ -3,11 +3,8 @@ use Rattle.std.specs.Prelude.{ℕ, ◌≡◌, List}
 use Rattle.std.proofs.Math.Option.{Option, none, some}
 use Rattle.tag.specs.Tags.{Tag, empty}
 use Rattle.geometry.specs.declared.vec3f.Vec3.{Vec3}
-use Rattle.model.specs.Answer.{number_of}
 use Rattle.model.specs.Model.{Model}
 use Rattle.model.specs.Form.{Reply, handed, Evaluated}
-use Rattle.evaluating.specs.declared.evaluate.Evaluating.{Evaluating}
-use Rattle.evaluating.specs.declared.evaluate.Evaluating.TheVariants.{Number, Refused as Handed}
 use Rattle.model_bytes.specs.ModelBytes.{model_in}
 use Rattle.report.specs.Report.{of_reply}
 use Rattle.opened.specs.Said.{Says}
@@ -21,13 +18,3 @@ pub record Evaluates (s : List ℕ) (t : Tag) (p : Vec3) (out after : List ℕ) 
   pub reply : Reply
   pub defined : Replies (model_in s) t p reply
   pub says : Says (of_reply reply) out after code
-
--- ---- what the helpers promise
-
-abbrev pub reply_code : Evaluating → ℕ
-reply_code (Number b) = 0
-reply_code (Handed e) = number_of e
-
-abbrev pub reply_bits : Evaluating → ℕ
-reply_bits (Number b) = b
-reply_bits (Handed e) = 0

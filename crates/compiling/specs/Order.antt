@@ -3,12 +3,9 @@ use Rattle.std.specs.Prelude.{ℕ, ◌*◌, ◌≤◌, ◌<◌, ◌≡◌, List,
 use Rattle.std.proofs.Math.Option.{Option, none, some}
 use Rattle.tag.specs.Tags.{Tag, empty}
 use Rattle.model.specs.declared.implicit_model.Model.{Model as Record}
-use Rattle.model.specs.Answer.{number_of}
 use Rattle.model.specs.Model.{Model}
 use Rattle.model.specs.Form.{Compiling as Ending, ordered, stopped, Compiled}
-use Rattle.graph.specs.declared.computation_graph.Compiling.{Compiling}
-use Rattle.graph.specs.declared.computation_graph.Compiling.TheVariants.{Ordered, Refused}
-use Rattle.graph.specs.declared.computation_graph.CompiledGraph.{CompiledGraph}
+use Rattle.graph.specs.declared.computation_graph.Graph.{Graph}
 use Rattle.graph.specs.Compile.{tag_at, positions_of}
 use Rattle.rows.specs.Rows.{tag_in, rows_in}
 use Rattle.rows.specs.Written.{Wrote}
@@ -43,10 +40,6 @@ pub record Compiles (s : List ℕ) (t : Tag) (order written out after : List ℕ
 
 -- ---- what the helpers promise
 
-abbrev pub ending_code : Compiling → ℕ
-ending_code (Ordered n) = 0
-ending_code (Refused e) = number_of e
-
 -- the tags of an order
-abbrev pub tags_of : Record → CompiledGraph → List Tag
+abbrev pub tags_of : Record → Graph → List Tag
 tags_of m g = map (tag_at m) (positions_of g)

@@ -8,49 +8,35 @@ ghost use Rattle.graph.specs.Compile.{tag_at};
 ghost use Rattle.evaluating.specs.Evaluate.{Workable};
 ghost use Rattle.rows.specs.Rows.{rows_in};
 ghost use Rattle.rows.specs.Written.{Wrote};
-ghost use Rattle.compiling.specs.Order.{tag_row, OrderIn, Compiles, ending_code, tags_of};
+ghost use Rattle.compiling.specs.Order.{tag_row, OrderIn, Compiles, tags_of};
 
-use graph::computation_graph::{CompiledGraph, Compiling, compile};
+use graph::computation_graph::{Graph, compile};
 use model::implicit_model::Model;
 use model_bytes::decode::decode;
 use opened::{say, say_code};
-use report::number_of;
 use rows::writing::write_tag;
+use tag::Tag;
 
-fn ending_code(a: Compiling) -> u32
-    ensures { result ≡ ending_code a }
+// Writes the tags of an order.
+fn write_tags(m: &Model, g: &Graph, order: &mut [u8])
+    requires { Workable m.now g.now × (2560 ≤ length order.old) }
+    ensures { Wrote (λ u. rows_in (tag_row u) g.now.count) (some (rows (tag_at m.now) g.now.count g.now.order)) 0 (40 * g.now.count) order.old order.new }
 {
-    match a {
-        Compiling::Ordered(_) => 0,
-        Compiling::Refused(e) => number_of(e),
-    }
-}
-
-// Writes the tags of an order of n.
-fn write_tags(m: Model, g: CompiledGraph, n: usize, order: &mut [u8])
-    requires { Workable m g n × (2560 ≤ length order.old) }
-    ensures { Wrote (λ u. rows_in (tag_row u) n) (some (rows (tag_at m) n g.order)) 0 (40 * n) order.old order.new }
-{
-    let at = g.order;
-    let mut i: usize = 0;
-    while i < n {
-        let x = at[i];
-        let e = m.components[x];
-        let t = e.tag;
-        write_tag(order, 40 * i, t);
-        i += 1;
+    for i in 0..g.count {
+        let x = g.order[i];
+        write_tag(order, 40 * i, m.components[x].tag);
     }
 }
 
 // Writes them where there is room for the longest order.
-fn write_order(m: Model, g: CompiledGraph, n: usize, order: &mut [u8])
-    requires { Workable m g n }
-    ensures { OrderIn (tags_of m g) order.old order.new }
+fn write_order(m: &Model, g: &Graph, order: &mut [u8])
+    requires { Workable m.now g.now }
+    ensures { OrderIn (tags_of m.now g.now) order.old order.new }
 {
     if order.len() < 2560 {
         return;
     }
-    write_tags(m, g, n, order);
+    write_tags(m, g, order);
 }
 
 // The order in which the target's components are computed, as tags, or a refusal.
@@ -61,14 +47,14 @@ pub fn dw_compile(model: &[u8], target: &[u8], order: &mut [u8], out: &mut [u8])
     if !d.ok {
         return say_code(out, 7);
     }
-    let m = d.model;
-    let g = compile(m, target);
-    let a = g.answer;
-    let Compiling::Ordered(n) = a else {
-        let t = g.tag;
-        return say(out, ending_code(a), g.index as u64, t, 0);
-    };
-    write_order(m, g, n, order);
-    let t = tag::empty_tag();
-    say(out, 0, 0, t, n as u64)
+    match compile(&d.model, target) {
+        Ok(graph) => {
+            write_order(&d.model, &graph, order);
+            say(out, 0, 0, Tag::default(), graph.count as u64)
+        }
+        Err(refusal) => {
+            let code = u32::from(refusal.error);
+            say(out, code, refusal.index as u64, refusal.tag, 0)
+        }
+    }
 }

@@ -18,8 +18,7 @@ pub fn dw_new(model: &mut [u8], out: &mut [u8]) -> u32
     if model.len() != 27200 {
         return tell_7(out);
     }
-    let m = held::reading::new();
-    put_model(m, 0, model);
+    put_model(held::reading::new(), 0, model);
     tell_done(out)
 }
 
@@ -39,11 +38,15 @@ pub fn dw_evaluate_after(
     if !d.ok {
         return tell_7(out);
     }
-    let m = d.model;
-    let after = evaluate_after(m, edits, target, float_of(x), float_of(y), float_of(z));
-    let e = after.evaluation;
-    let code = tell_reply(e, out);
-    let n = after.model;
-    put_model(n, code, model);
+    let after = evaluate_after(
+        d.model,
+        edits,
+        target,
+        float_of(x),
+        float_of(y),
+        float_of(z),
+    );
+    let code = tell_reply(after.reply, out);
+    put_model(after.model, code, model);
     code
 }

@@ -5,135 +5,93 @@ ghost use Rattle.held.proofs.Laws.Rows.{no_list};
 ghost use Rattle.resolving.specs.Slots.{slots, Resolved};
 ghost use Rattle.lacking.specs.Least.{take_in, absent_turn, gap_turn, LeastOf, AbsentShown, GapShown};
 
-use model::implicit_model::{InputList, Model};
+use model::implicit_model::Model;
 use resolving::slots::{Slot, slot_at};
 use tag::Tag;
 use tag::order::comes_before;
 
-// The least tag met so far, with an index; or none.
+// A tag that the lists show, with the index of its first gap; or with 0.
 #[derive(Clone, Copy)]
-pub struct Best {
-    pub some: bool,
+pub struct Shown {
     pub tag: Tag,
     pub index: usize,
 }
 
-fn none_yet() -> Best
-    ensures { result.some ≡ false }
+// The lesser of the least so far and a tag.
+fn take_in(least: Option<Shown>, tag: Tag, index: usize) -> Option<Shown>
+    ensures { result ≡ take_in least tag index }
 {
-    let t = tag::empty_tag();
-    Best {
-        some: false,
-        tag: t,
-        index: 0,
+    match least {
+        Some(shown) if !comes_before(tag, shown.tag) => least,
+        _ => Some(Shown { tag, index }),
     }
-}
-
-// The better of the best so far and t.
-fn take_in(b: Best, t: Tag, i: usize) -> Best
-    ensures { result ≡ take_in b t i }
-{
-    if !b.some {
-        return Best {
-            some: true,
-            tag: t,
-            index: i,
-        };
-    }
-    let u = b.tag;
-    if comes_before(t, u) {
-        return Best {
-            some: true,
-            tag: t,
-            index: i,
-        };
-    }
-    b
 }
 
 // The mark of a node.
-fn mark_of(seen: &[u8; 192], x: usize) -> u8
-    ensures { x < 192 → result ≡ get_or seen.now x 0 }
+fn mark_of(seen: &[bool; 192], x: usize) -> bool
+    ensures { x < 192 → result ≡ get_or seen.now x false }
 {
-    if 192 <= x {
-        return 0;
-    }
-    seen[x]
+    x < 192 && seen[x]
 }
 
 // A slot of a marked list is taken in if its tag has no component.
-fn absent_turn(b: Best, s: Slot, v: usize, mark: u8) -> Best
-    ensures { result ≡ absent_turn b s v mark }
+fn absent_turn(least: Option<Shown>, s: Slot, node: usize, mark: bool) -> Option<Shown>
+    ensures { result ≡ absent_turn least s node mark }
 {
-    if mark != 1 {
-        return b;
+    match s {
+        Slot::Named(t) if mark && 64 <= node => take_in(least, t, 0),
+        _ => least,
     }
-    if v < 64 {
-        return b;
-    }
-    if 192 < v {
-        return b;
-    }
-    let t = s.tag;
-    take_in(b, t, 0)
 }
 
 // The least tag without a component that a marked list shows: its own, or one in its places.
-pub fn least_absent(m: Model, found: &[usize; 512], seen: &[u8; 192]) -> Best
-    ensures { passes m ≡ true → Resolved no_list m found.now → LeastOf (AbsentShown no_list m found.now seen.now (slots m)) result }
+pub fn least_absent(m: &Model, found: &[usize; 512], seen: &[bool; 192]) -> Option<Shown>
+    ensures { passes m.now ≡ true → Resolved no_list m.now found.now → LeastOf (AbsentShown no_list m.now found.now seen.now (slots m.now)) result }
 {
-    let n = tag::at_most(m.list_count, 128) * 4;
-    let mut b = none_yet();
-    let mut j: usize = 0;
-    while j < n {
-        let l = m.lists[j / 4];
-        let s = slot_at(l, j % 4);
-        let x = found[j / 4 * 4];
-        b = absent_turn(b, s, found[j], mark_of(seen, x));
-        j += 1;
+    let mut least = None;
+    for j in 0..m.live_lists().len() * 4 {
+        let slot = slot_at(&m.lists[j / 4], j % 4);
+        let mark = mark_of(seen, found[j / 4 * 4]);
+        least = absent_turn(least, slot, found[j], mark);
     }
-    b
+    least
 }
 
 // The tag of a marked list is taken in, with the lowest index, if one of its places is unassigned.
-fn gap_turn(b: Best, t: Tag, p: usize, q: usize, r: usize, mark: u8) -> Best
-    ensures { result ≡ gap_turn b t p q r mark }
+fn gap_turn(least: Option<Shown>, t: Tag, p: usize, q: usize, r: usize, mark: bool) -> Option<Shown>
+    ensures { result ≡ gap_turn least t p q r mark }
 {
-    if mark != 1 {
-        return b;
+    if !mark {
+        return least;
     }
     if p == 193 {
-        return take_in(b, t, 0);
+        return take_in(least, t, 0);
     }
     if q == 193 {
-        return take_in(b, t, 1);
+        return take_in(least, t, 1);
     }
     if r == 193 {
-        return take_in(b, t, 2);
+        return take_in(least, t, 2);
     }
-    b
+    least
 }
 
 // The least tag of a marked list with a gap, and the lowest index.
-pub fn least_gap(m: Model, found: &[usize; 512], seen: &[u8; 192]) -> Best
-    ensures { passes m ≡ true → Resolved no_list m found.now → LeastOf (GapShown no_list m found.now seen.now (min m.list_count 128)) result }
+pub fn least_gap(m: &Model, found: &[usize; 512], seen: &[bool; 192]) -> Option<Shown>
+    ensures { passes m.now ≡ true → Resolved no_list m.now found.now → LeastOf (GapShown no_list m.now found.now seen.now (min m.now.list_count 128)) result }
 {
-    let n = tag::at_most(m.list_count, 128);
-    let mut b = none_yet();
-    let mut l: usize = 0;
-    while l < n {
-        let e = m.lists[l];
-        let t = e.tag;
-        let x = found[l * 4];
-        b = gap_turn(
-            b,
+    let mut least = None;
+    for l in 0..m.live_lists().len() {
+        let mark = mark_of(seen, found[l * 4]);
+        let t = m.lists[l].tag;
+        least = gap_turn(
+            least,
             t,
             found[l * 4 + 1],
             found[l * 4 + 2],
             found[l * 4 + 3],
-            mark_of(seen, x),
+            mark,
         );
-        l += 1;
     }
-    b
+    least
 }

@@ -17,9 +17,8 @@ pub fn opened(bytes: &[u8]) -> Decoded
     if !d.ok {
         return d;
     }
-    let m = d.model;
-    let ok = is_valid(m);
-    Decoded { ok: ok, model: m }
+    let ok = is_valid(&d.model);
+    Decoded { ok, model: d.model }
 }
 
 // Writes the report, and answers its code.

@@ -1,28 +1,31 @@
 -- From the record to node numbers: what the helpers of compile promise of tags. Definitions only.
-use Rattle.std.specs.Prelude.{ℕ, zero, suc, ◌+◌, ◌*◌, ◌/◌, ◌%◌, ◌<◌, min, ◌≡◌, cond, List, [], ◌∷◌, length, get_or, ltb, eqb}
+use Rattle.std.specs.Prelude.{ℕ, zero, suc, ◌+◌, ◌*◌, ◌/◌, ◌%◌, ◌<◌, min, ◌≡◌, List, [], ◌∷◌, length, get_or, Option, Some, None}
 use Rattle.std.proofs.Math.Option.{none, some}
-use Rattle.tag.specs.Tags.{Tag, is}
+use Rattle.tag.specs.Tags.{Tag}
 use Rattle.tag.specs.View.{bytes_of}
-use Rattle.tag.specs.declared.Tag.{Tag as Label}
 use Rattle.model.specs.declared.implicit_model.InputList.{InputList}
 use Rattle.model.specs.declared.implicit_model.Model.{Model as Record}
-use Rattle.held.specs.declared.find.Found.{Found}
-use Rattle.held.specs.declared.find.Found.TheVariants.{At, Nothing}
 use Rattle.model.specs.Model.{Place}
 use Rattle.model.specs.View.{place_of, rows, components_of, lists_of}
 use Rattle.held.specs.Search.{position}
 use Rattle.resolving.specs.declared.slots.Slot.{Slot}
+use Rattle.resolving.specs.declared.slots.Slot.TheVariants.{Named, Unassigned, Past}
 
 -- ---- nodes
 
-abbrev pub node_at : Found → Found → ℕ
-node_at (At i) g = i
-node_at Nothing (At l) = 64 + l
-node_at Nothing Nothing = 192
+abbrev pub node_at : Option ℕ → Option ℕ → ℕ
+node_at (Some i) g = i
+node_at None (Some l) = 64 + l
+node_at None None = 192
 
 -- the node of a tag: its component's position; else 64 and on for its list's; else 192
 unfoldable pub node_of : Record → Tag → ℕ
 node_of m a = node_at (position a 0 (components_of m)) (position a 0 (lists_of m))
+
+-- the node that a search answers, or that the tag has none
+abbrev pub NodeOf : Record → Tag → Option ℕ → Type 0
+NodeOf m a (Some x) = (x < 192) × (x ≡ node_of m a)
+NodeOf m a None = 192 ≡ node_of m a
 
 -- ---- what stands in a list: a tag to look up, or a number
 
@@ -42,18 +45,16 @@ abbrev pub want_of : InputList → ℕ → Want
 want_of l zero = look (bytes_of l.tag)
 want_of l (suc p) = place_want (rows place_of l.count l.places) p
 
--- what the record of a slot says: kind 0 is a tag
+-- what the code says of a slot
 abbrev pub slot_of : Slot → Want
-slot_of s = cond (eqb s.kind 0) (look (bytes_of s.tag)) (fixed s.kind)
+slot_of (Named t) = look (bytes_of t)
+slot_of Unassigned = fixed 193
+slot_of Past = fixed 194
 
 -- the number that a slot comes to
 abbrev pub settled : Record → Want → ℕ
 settled m (look a) = node_of m a
 settled m (fixed k) = k
-
--- the number of a slot where a guess at its component holds; 195 where it does not: u is the tag at the position c, of which `held` are live
-abbrev pub settle_of : Slot → Label → ℕ → ℕ → ℕ
-settle_of s u c held = cond (eqb s.kind 0) (cond (ltb c held) (cond (is (bytes_of u) (bytes_of s.tag)) c 195) 195) s.kind
 
 -- ---- arrays
 

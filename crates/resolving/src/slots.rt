@@ -1,162 +1,100 @@
 // From the record of a model to node numbers. A component's node is its position; a list whose tag has no component is 64 and on.
-ghost use Rattle.std.specs.Prelude.{◌≡◌, true, ◌<◌};
+ghost use Rattle.std.specs.Prelude.{◌≡◌, true};
 ghost use Rattle.tag.specs.View.{bytes_of};
 ghost use Rattle.model.specs.View.{passes};
 ghost use Rattle.held.proofs.Laws.Rows.{no_list};
-ghost use Rattle.resolving.specs.Slots.{node_of, want_of, slot_of, settle_of, Resolved};
+ghost use Rattle.resolving.specs.Slots.{NodeOf, want_of, slot_of, settled, Resolved};
 
-use held::find::{Found, find_component, find_list};
-use model::implicit_model::{ComponentEntry, InputList, Model};
+use held::find::{find_component, find_list};
+use model::implicit_model::{InputList, Model};
 use tag::Tag;
 
-// The node of a tag, or 192. It searches the tables; `resolve` asks it only where a guess fails, since the call copies the model.
-pub fn node_of(m: Model, t: Tag) -> usize
-    ensures { result ≡ node_of m (bytes_of t) }
+// The node of a tag, where it has one. It searches the tables; `target_node` asks it only where a guess fails.
+pub fn node_of(m: &Model, t: Tag) -> Option<usize>
+    ensures { NodeOf m.now (bytes_of t) result }
 {
-    let f = find_component(m, t);
-    if let Found::At(i) = f {
-        return i;
+    if let Some(i) = find_component(m, t) {
+        return Some(i);
     }
-    let g = find_list(m, t);
-    if let Found::At(l) = g {
-        return 64 + l;
-    }
-    192
+    let l = find_list(m, t)?;
+    Some(64 + l)
 }
 
-// What stands in a slot of a list: a tag (kind 0), an unassigned place (193), or nothing (194).
+// What stands in a slot of a list.
 #[derive(Clone, Copy)]
-pub struct Slot {
-    pub kind: usize,
-    pub tag: Tag,
+pub enum Slot {
+    Named(Tag),
+    Unassigned,
+    // There is no such place.
+    Past,
 }
 
 // Slot 0 of a list is its own tag, slot 1 its place 0, and so on.
-pub fn slot_at(l: InputList, q: usize) -> Slot
-    ensures { slot_of result ≡ want_of l q }
+pub fn slot_at(l: &InputList, q: usize) -> Slot
+    ensures { slot_of result ≡ want_of l.now q }
 {
     if q == 0 {
-        let t = l.tag;
-        return Slot { kind: 0, tag: t };
+        return Slot::Named(l.tag);
     }
-    let p = q - 1;
-    let n = tag::at_most(l.count, 3);
-    if n <= p {
-        let t = l.tag;
-        return Slot { kind: 194, tag: t };
+    let Some(place) = l.live_places().get(q - 1) else {
+        return Slot::Past;
+    };
+    match *place {
+        Some(t) => Slot::Named(t),
+        None => Slot::Unassigned,
     }
-    let e = l.places[p];
-    let t = e.tag;
-    if e.assigned {
-        return Slot { kind: 0, tag: t };
-    }
-    Slot { kind: 193, tag: t }
-}
-
-fn wide(b: u8) -> u64
-    ensures { result < 256 }
-{
-    b as u64
 }
 
 // A number that a tag is looked up by. Any would do: what is found by it is held against the tag.
-fn key(t: Tag) -> u64 {
-    let n = tag::at_most(t.len, 32);
-    let mut k: u64 = 0;
-    let mut i: usize = 0;
-    while i < n {
-        k = (k % 0x1_0000_0000) * 257 + wide(t.bytes[i]);
-        i += 1;
-    }
-    k
+fn key(t: &Tag) -> u64 {
+    t.as_bytes().iter().fold(
+        0,
+        |k: u64, &b| k.wrapping_mul(257).wrapping_add(u64::from(b)),
+    )
 }
 
-// The keys of the components' tags. It takes their table alone, which is a fifth of the model to copy.
-pub fn component_keys(table: [ComponentEntry; 64], count: usize) -> [u64; 64] {
-    let n = tag::at_most(count, 64);
-    let mut keys = [0u64; 64];
-    let mut i: usize = 0;
-    while i < n {
-        let e = table[i];
-        let t = e.tag;
-        keys[i] = key(t);
-        i += 1;
+// The keys of the components' tags.
+pub fn component_keys(m: &Model) -> [u64; 64] {
+    let mut keys = [0; 64];
+    for (i, e) in m.live_components().iter().enumerate() {
+        keys[i] = key(&e.tag);
     }
     keys
 }
 
-// A position that may be that of a slot's component.
-fn guess(keys: &[u64; 64], s: Slot) -> usize
-    ensures { result < 64 }
+// The node of a tag, by a guess at its component where that holds.
+pub fn target_node(m: &Model, keys: &[u64; 64], t: Tag) -> Option<usize>
+    ensures { passes m.now ≡ true → NodeOf m.now (bytes_of t) result }
 {
-    if s.kind != 0 {
-        return 0;
-    }
-    let t = s.tag;
-    let k = key(t);
-    let mut i: usize = 0;
-    while i < 63 {
-        if keys[i] == k {
-            return i;
+    let components = m.live_components();
+    let k = key(&t);
+    if let Some(c) = keys.iter().position(|x| *x == k) {
+        if c < components.len() && components[c].tag == t {
+            return Some(c);
         }
-        i += 1;
     }
-    i
+    node_of(m, t)
 }
 
-// The number of a slot where a guess at its component holds, else 195.
-fn settle(s: Slot, u: Tag, c: usize, held: usize) -> usize
-    ensures { result ≡ settle_of s u c held }
+// The number of a slot: its tag's node, or 192 where that has none; 193 where it is unassigned, and 194 past the end.
+fn slot_number(m: &Model, keys: &[u64; 64], s: Slot) -> usize
+    ensures { passes m.now ≡ true → result ≡ settled m.now (slot_of s) }
 {
-    if s.kind != 0 {
-        return s.kind;
+    match s {
+        Slot::Named(t) => target_node(m, keys, t).unwrap_or(192),
+        Slot::Unassigned => 193,
+        Slot::Past => 194,
     }
-    if held <= c {
-        return 195;
-    }
-    let t = s.tag;
-    if tag::same_tag(u, t) {
-        return c;
-    }
-    195
-}
-
-// The node of a tag, by a guess where that holds.
-pub fn target_node(m: Model, keys: &[u64; 64], t: Tag) -> usize
-    ensures { passes m ≡ true → result ≡ node_of m (bytes_of t) }
-{
-    let s = Slot { kind: 0, tag: t };
-    let c = guess(keys, s);
-    let e = m.components[c];
-    let u = e.tag;
-    let v = settle(s, u, c, tag::at_most(m.component_count, 64));
-    if 195 <= v {
-        return node_of(m, t);
-    }
-    v
 }
 
 // The numbers of all slots of the lists, four to a list.
-pub fn resolve(m: Model, keys: &[u64; 64]) -> [usize; 512]
-    ensures { passes m ≡ true → Resolved no_list m result }
+pub fn resolve(m: &Model, keys: &[u64; 64]) -> [usize; 512]
+    ensures { passes m.now ≡ true → Resolved no_list m.now result }
 {
-    let held = tag::at_most(m.component_count, 64);
-    let n = tag::at_most(m.list_count, 128) * 4;
-    let mut found = [194usize; 512];
-    let mut j: usize = 0;
-    while j < n {
-        let l = m.lists[j / 4];
-        let s = slot_at(l, j % 4);
-        let t = s.tag;
-        let c = guess(keys, s);
-        let e = m.components[c];
-        let u = e.tag;
-        let mut v = settle(s, u, c, held);
-        if 195 <= v {
-            v = node_of(m, t);
-        }
-        found[j] = v;
-        j += 1;
+    let mut found = [194; 512];
+    for j in 0..m.live_lists().len() * 4 {
+        let slot = slot_at(&m.lists[j / 4], j % 4);
+        found[j] = slot_number(m, keys, slot);
     }
     found
 }

@@ -1,8 +1,9 @@
 // One row of a list of edits, run.
 #![tactic(auto)]
 
-ghost use Rattle.std.specs.Prelude.{◌≡◌, ◌⊎◌, ◌+◌, ◌≤◌, ◌<◌, leb, length};
+ghost use Rattle.std.specs.Prelude.{◌≡◌, ◌+◌, ◌≤◌, ◌<◌, leb, length, []};
 ghost use Rattle.model.specs.Edit.{add_operation};
+ghost use Rattle.edit.specs.Ends.{Refused};
 ghost use Rattle.edit.specs.Meets.{Meets};
 ghost use Rattle.layout.specs.Words.{word, text};
 ghost use Rattle.edit_rows.specs.EditRows.{given};
@@ -10,12 +11,11 @@ ghost use Rattle.newest.specs.Place.{tag_at};
 ghost use Rattle.row_running.specs.Steps.{Runs, Stepped};
 
 use component::model_component::Component;
-use component_layout::component_words::{ComponentRead, DataRead};
 use edit::Edited;
 use edit_rows::edit_row::{component_at, data_at};
 use layout::words::{read_text, read_word};
 use model::implicit_model::Model;
-use model::model_error::ModelError;
+use model::model_error::{ModelError, Refusal};
 use newest::place_after;
 
 // A model, and the place of the target's newest tag.
@@ -23,6 +23,13 @@ use newest::place_after;
 pub struct Run {
     pub model: Model,
     pub place: usize,
+}
+
+// A row that is no edit is refused with 7.
+fn no_edit(m: Model) -> Edited
+    ensures { Refused m 7 [] 0 result }
+{
+    Edited::refused(m, Refusal::plain(ModelError::InvalidModel))
 }
 
 // The row's operation c added, with the inputs that it gives.
@@ -43,21 +50,17 @@ fn run_add_operation(m: Model, s: &[u8], at: usize, c: Component) -> Edited
 
 // A row that adds a component that it holds: 1, 3 or 4.
 fn run_adding(m: Model, s: &[u8], at: usize, which: u64) -> Edited
-    requires { (at + 256 ≤ length s.now) × ((which ≡ word s.now at) × ((which ≡ 1) ⊎ ((which ≡ 3) ⊎ (which ≡ 4)))) }
+    requires { (at + 256 ≤ length s.now) × ((which ≡ word s.now at) × ((1 ≤ which) × ((which ≤ 4) × (which ≡ 2 → ⊥)))) }
     ensures { Runs s.now at m result }
 {
-    let read = component_at(s, at);
-    let ComponentRead::Component(c) = read else {
-        return edit::refuse_plain(m, ModelError::InvalidModel);
+    let Some(c) = component_at(s, at) else {
+        return no_edit(m);
     };
-    if which == 1 {
-        return run_add_operation(m, s, at, c);
+    match which {
+        1 => run_add_operation(m, s, at, c),
+        3 => adding::add_function(m, read_text(s, at + 64), c),
+        _ => adding_component::add_component(m, read_text(s, at + 64), c),
     }
-    let tag = read_text(s, at + 64);
-    if which == 3 {
-        return adding::add_function(m, tag, c);
-    }
-    adding_component::add_component(m, tag, c)
 }
 
 // A row that sets a parameter: 9.
@@ -65,9 +68,8 @@ fn run_setting(m: Model, s: &[u8], at: usize) -> Edited
     requires { (at + 256 ≤ length s.now) × (word s.now at ≡ 9) }
     ensures { Runs s.now at m result }
 {
-    let read = data_at(s, at);
-    let DataRead::Data(d) = read else {
-        return edit::refuse_plain(m, ModelError::InvalidModel);
+    let Some(d) = data_at(s, at) else {
+        return no_edit(m);
     };
     setting::set_parameter(m, read_text(s, at + 64), read_text(s, at + 112), d)
 }
@@ -80,15 +82,13 @@ fn run_other(m: Model, s: &[u8], at: usize, which: u64) -> Edited
     let tag = read_text(s, at + 64);
     let index = read_word(s, at + 56) as usize;
     match which {
-        1 => run_adding(m, s, at, which),
+        1 | 3 | 4 => run_adding(m, s, at, which),
         2 => adding::add_constant(m, tag, float::bits::float_of(read_word(s, at + 16))),
-        3 => run_adding(m, s, at, which),
-        4 => run_adding(m, s, at, which),
         5 => wiring::add_input(m, tag, read_text(s, at + 112), index),
         6 => unwiring::remove_input(m, tag, index),
         7 => removing::remove_component(m, tag),
         9 => run_setting(m, s, at),
-        _ => edit::refuse_plain(m, ModelError::InvalidModel),
+        _ => no_edit(m),
     }
 }
 
@@ -99,13 +99,10 @@ fn run_rename(m: Model, s: &[u8], at: usize, target: &[u8], place: usize) -> Run
 {
     let old = read_text(s, at + 64);
     let new = read_text(s, at + 112);
-    let r = renaming::rename_component(m, old, new);
-    let renamed = r.model;
-    let answer = r.answer;
-    let p = place_after(answer, target, s, place, old, at + 112);
+    let renamed = renaming::rename_component(m, old, new);
     Run {
-        model: renamed,
-        place: p,
+        model: renamed.model,
+        place: place_after(renamed.answer, target, s, place, old, at + 112),
     }
 }
 
@@ -114,13 +111,7 @@ fn holds_row(s: &[u8], at: usize) -> bool
     ensures { result ≡ leb (at + 256) (length s.now) }
 {
     let n = s.len();
-    if n < 256 {
-        return false;
-    }
-    if n - 256 < at {
-        return false;
-    }
-    true
+    256 <= n && at <= n - 256
 }
 
 // The row run, by its number. Where no whole row stands, nothing is run.
@@ -135,10 +126,9 @@ pub fn run_row(m: Model, s: &[u8], at: usize, target: &[u8], place: usize) -> Ru
     if which == 8 {
         return run_rename(m, s, at, target, place);
     }
-    let r = run_other(m, s, at, which);
-    let after = r.model;
+    let after = run_other(m, s, at, which);
     Run {
-        model: after,
+        model: after.model,
         place,
     }
 }

@@ -9,21 +9,29 @@ ghost use Rattle.newest.specs.Place.{tag_at};
 ghost use Rattle.steady.specs.Steadied.{After};
 
 use edit_rows::edit_row::are_edits;
-use evaluating::evaluate::{Evaluating, Evaluation, evaluate_at};
+use evaluating::evaluate::evaluate_at;
 use layout::words::read_text;
 use model::implicit_model::Model;
-use model::model_error::ModelError;
+use model::model_error::{ModelError, Refusal};
 
 // What the form answered, and the model after the list.
 #[derive(Clone, Copy)]
 pub struct AfterList {
-    pub evaluation: Evaluation,
+    pub reply: Result<u64, Refusal>,
     pub model: Model,
 }
 
 // The form asked, under the target's newest tag.
-fn ask(m: Model, s: &[u8], target: &[u8], place: usize, x: f64, y: f64, z: f64) -> Evaluation
-    ensures { EvaluatesAs m (tag_at target.now s.now place) (point_of x y z) result }
+fn ask(
+    m: &Model,
+    s: &[u8],
+    target: &[u8],
+    place: usize,
+    x: f64,
+    y: f64,
+    z: f64,
+) -> Result<u64, Refusal>
+    ensures { EvaluatesAs m.now (tag_at target.now s.now place) (point_of x y z) result }
 {
     if place == 0 {
         return evaluate_at(m, target, x, y, z);
@@ -37,21 +45,15 @@ pub fn evaluate_after(m: Model, edits: &[u8], target: &[u8], x: f64, y: f64, z: 
     ensures { After (edits_of edits.now) m target.now (point_of x y z) result }
 {
     if !are_edits(edits) {
-        let e = Evaluation {
-            answer: Evaluating::Refused(ModelError::InvalidModel),
-            tag: tag::empty_tag(),
-            index: 0,
-        };
         return AfterList {
-            evaluation: e,
+            reply: Err(Refusal::plain(ModelError::InvalidModel)),
             model: m,
         };
     }
     let run = list::run_list(m, edits, target);
-    let n = run.model;
-    let e = ask(n, edits, target, run.place, x, y, z);
+    let reply = ask(&run.model, edits, target, run.place, x, y, z);
     AfterList {
-        evaluation: e,
-        model: n,
+        reply,
+        model: run.model,
     }
 }

@@ -1,25 +1,26 @@
 -- A form's order. Assumes nothing.
-use Prim.Native.Nat.{ℕ, zero, suc, ◌+◌, ◌*◌, ◌≤◌, ◌<◌}
+use Prim.Native.Nat.{ℕ, ◌+◌, ◌*◌, ◌≤◌, ◌<◌}
 use mathlib.Core.Path.{◌≡◌, refl, sym, ap, ap₂, subst, ◌∙◌}
 use mathlib.Core.Bool.{Bool, true, false, not}
-use mathlib.Core.List.{List, [], ◌∷◌, map, Memᴰ}
+use mathlib.Core.List.{List, []}
 use mathlib.Core.Option.{Option, some}
 use native.Mathlib.Omega.{arith}
-use lib.ListN.{length, get_or, take, length-map, length-take, get_or-map}
+use lib.ListN.{length, get_or, length-map, length-take, get_or-map}
 use Rattle.tag.specs.Tags.{Tag, empty}
 use Rattle.tag.specs.View.{bytes_of}
 use Rattle.model.specs.declared.implicit_model.Model.{Model as Record}
-use Rattle.model.specs.declared.model_error.ModelError.{ModelError}
+use Rattle.model.specs.declared.model_error.Refusal.{Refusal}
 use Rattle.model.specs.Answer.{number_of}
+use Rattle.model.specs.Edit.{Answer, done, made, refused}
 use Rattle.model.specs.Model.{Model}
 use Rattle.model.specs.Form.{Compiling as Ending, ordered, stopped, Compiled, refusal, invalid}
 use Rattle.model.specs.View.{rows, component_of, components_of, view, fits, passes}
 use Rattle.model.proofs.Laws.Bool.{true→T}
 use Rattle.held.proofs.Laws.Rows.{no_entry, rows-length, rows_at}
-use Rattle.graph.specs.declared.computation_graph.Compiling.{Compiling}
-use Rattle.graph.specs.declared.computation_graph.Compiling.TheVariants.{Ordered, Refused}
-use Rattle.graph.specs.declared.computation_graph.CompiledGraph.{CompiledGraph}
-use Rattle.graph.specs.Compile.{count_of, ending_of, tag_at, positions_of, CompilesAs}
+use Rattle.held.proofs.Laws.Standing.{standing}
+use Rattle.graph.specs.declared.computation_graph.Graph.{Graph}
+use Rattle.graph.specs.Compile.{tag_at, positions_of, OrdersAs, RefusesAs}
+use Rattle.nodes.proofs.Laws.Wires.{take_at}
 use Rattle.evaluating.specs.Evaluate.{Workable}
 use Rattle.layout.proofs.Kept.{kept-none}
 use Rattle.rows.specs.Rows.{tag_in, rows_in}
@@ -32,44 +33,36 @@ use Rattle.model_bytes.specs.Calls.{Decodes}
 use Rattle.report.specs.Report.{Report}
 use Rattle.opened.specs.Said.{plain, Says}
 use Rattle.opened.proofs.Laws.Said.{says_as, unheld, held, judged}
-use Rattle.compiling.specs.Order.{Ends, tag_row, OrderIn, Compiles, ending_code, tags_of}
+use Rattle.compiling.specs.Order.{Ends, tag_row, OrderIn, Compiles, tags_of}
 
 -- ---- 7 judged on the record and on the model
 
 module _ (m : Record) (t : Tag) (fit : fits m ≡ true) where
-  pub compiled : {g : CompiledGraph} → CompilesAs m t g → Compiled (view m) t (ending_of g.answer (bytes_of g.tag) g.index) (tags_of m g)
-  compiled {g} x = go (passes m) refl
+  refused_as : (r : Refusal) → RefusesAs m t r → Compiled (view m) t (stopped (number_of r.error) (bytes_of r.tag) r.index) []
+  refused_as r x = go (passes m) refl
     where
-      go : (b : Bool) → passes m ≡ b → Compiled (view m) t (ending_of g.answer (bytes_of g.tag) g.index) (map (tag_at m) (positions_of g))
+      ending : Answer → Ending
+      ending (refused n u i) = stopped n u i
+      ending done = ordered
+      ending (made u) = ordered
+
+      go : (b : Bool) → passes m ≡ b → Compiled (view m) t (stopped (number_of r.error) (bytes_of r.tag) r.index) []
       go true e = x.fitting e
-      go false e =
-          let (a, u, i) = x.unfit e in
-          subst (λ (z : Compiling). Compiled (view m) t (ending_of z (bytes_of g.tag) g.index) (map (tag_at m) (take (count_of z) g.order))) (sym a)
-          (subst (λ (y : Ending). Compiled (view m) t y []) (sym (ap₂ (stopped 7) u i)) (refusal (invalid (true→T _ (ap not (judged m fit ∙ e))))))
+      go false e = subst (λ (y : Ending). Compiled (view m) t y []) (sym (ap ending (x.unfit e))) (refusal (invalid (true→T _ (ap not (judged m fit ∙ e)))))
 
 -- ---- the tags of an order
 
-take_at : (l : List ℕ) (n k : ℕ) → k < n → n ≤ length l → Memᴰ (get_or l k 0) (take n l)
-take_at l zero k h f = absurd (let z : ⊥ = omega arith in z)
-take_at [] (suc n) k h f = absurd (let z : ⊥ = omega arith in z)
-take_at (x ∷ l) (suc n) zero h f = Memᴰ.head refl
-take_at (x ∷ l) (suc n) (suc k) h f = Memᴰ.tail (take_at l n k (omega arith) (omega arith))
+module _ (m : Record) (g : Graph) (w : Workable m g) where
+  order-room : g.count ≤ length g.order
+  order-room = omega (arith, w.compiled.counted, length-take g.count g.order)
 
-module _ (m : Record) (g : CompiledGraph) (n : ℕ) (w : Workable m g n) where
-  pub order_few : n ≤ 64
-  order_few = subst (λ (z : Compiling). count_of z ≤ 64) w.count w.compiled.few
+  order-held : (k : ℕ) → k < g.count → get_or g.order k 0 < length (components_of m)
+  order-held k h = w.compiled.held (get_or g.order k 0) (take_at g.order g.count k h order-room)
 
-  pub order-room : n ≤ length g.order
-  order-room = omega (arith, subst (λ (z : Compiling). length (take (count_of z) g.order) ≡ count_of z) w.count w.compiled.counted, length-take n g.order)
+  pub order_small : (k : ℕ) → k < g.count → get_or g.order k 0 < 64
+  order_small k h = omega (arith, order-held k h, rows-length component_of m.components m.component_count, (standing m w.compiled.passing).few)
 
-  order-held : (k : ℕ) → k < n → get_or g.order k 0 < length (components_of m)
-  order-held k h =
-      w.compiled.held (get_or g.order k 0) (subst (λ (z : Compiling). Memᴰ (get_or g.order k 0) (take (count_of z) g.order)) (sym w.count) (take_at g.order n k h order-room))
-
-  pub order_small : length m.components ≡ 64 → (k : ℕ) → k < n → get_or g.order k 0 < 64
-  order_small e k h = omega (arith, order-held k h, rows-length component_of m.components m.component_count)
-
-  order_tag : (k : ℕ) → k < n → bytes_of (get_or m.components (get_or g.order k 0) no_entry).tag ≡ tag_at m (get_or g.order k 0)
+  order_tag : (k : ℕ) → k < g.count → bytes_of (get_or m.components (get_or g.order k 0) no_entry).tag ≡ tag_at m (get_or g.order k 0)
   unfolding bytes_of
   order_tag k h =
       sym
@@ -79,26 +72,20 @@ module _ (m : Record) (g : CompiledGraph) (n : ℕ) (w : Workable m g n) where
   pub tags-none : (s : List ℕ) → Wrote (λ v. rows_in (tag_row v) 0) (some (rows (tag_at m) 0 g.order)) 0 (40 * 0) s s
   tags-none s = rows-wrote-none (tag_at m) tag_row 0 40 (λ k. 40 * k) (λ k i h. omega arith) (λ s t k a. tag_local a) s g.order
 
-  pub tags-more : {s t u : List ℕ} {i : ℕ} → i < n → Wrote (λ v. rows_in (tag_row v) i) (some (rows (tag_at m) i g.order)) 0 (40 * i) s t
+  pub tags-more : {s t u : List ℕ} {i : ℕ} → i < g.count → Wrote (λ v. rows_in (tag_row v) i) (some (rows (tag_at m) i g.order)) 0 (40 * i) s t
       → Wrote (λ v. tag_in v (40 * i)) (some (bytes_of (get_or m.components (get_or g.order i 0) no_entry).tag)) (40 * i) 40 t u
       → Wrote (λ v. rows_in (tag_row v) (i + 1)) (some (rows (tag_at m) (i + 1) g.order)) 0 (40 * (i + 1)) s u
   tags-more {t = t} {u = u} {i = i} h p q =
       rows-wrote-more (tag_at m) tag_row 0 40 (λ k. 40 * k) (λ k i h. omega arith) (λ s t k a. tag_local a) _ g.order 0 (omega (arith, order-room)) (omega arith) (omega arith) p
       (subst (λ (b : Tag). Wrote (λ v. tag_in v (40 * i)) (some b) (40 * i) 40 t u) (order_tag i h) q)
 
-  tags-all : rows (tag_at m) n g.order ≡ tags_of m g
+  pub tags-count : length (tags_of m g) ≡ g.count
+  tags-count = length-map (positions_of g) (tag_at m) ∙ w.compiled.counted
+
+  pub order-wrote : {s t : List ℕ} → 2560 ≤ length s → Wrote (λ v. rows_in (tag_row v) g.count) (some (rows (tag_at m) g.count g.order)) 0 (40 * g.count) s t → OrderIn (tags_of m g) s t
   unfolding rows
-  tags-all = ap (λ (z : Compiling). map (tag_at m) (take (count_of z) g.order)) (sym w.count)
-
-  pub tags-count : length (tags_of m g) ≡ n
-  tags-count =
-      length-map (positions_of g) (tag_at m) ∙ w.compiled.counted ∙ ap count_of w.count
-
-  pub order-wrote : {s t : List ℕ} → 2560 ≤ length s → Wrote (λ v. rows_in (tag_row v) n) (some (rows (tag_at m) n g.order)) 0 (40 * n) s t → OrderIn (tags_of m g) s t
   order-wrote {s} {t} h q = record {
-    tags = λ y.
-        subst (λ (k : ℕ). Wrote (λ v. rows_in (tag_row v) k) (some (tags_of m g)) 0 (40 * k) s t) (sym tags-count)
-        (subst (λ (o : List Tag). Wrote (λ v. rows_in (tag_row v) n) (some o) 0 (40 * n) s t) tags-all q);
+    tags = λ y. subst (λ (k : ℕ). Wrote (λ v. rows_in (tag_row v) k) (some (tags_of m g)) 0 (40 * k) s t) (sym tags-count) q;
     narrow = λ y. absurd (let z : ⊥ = omega arith in z);
   }
 
@@ -124,30 +111,23 @@ module _ {s : List ℕ} {d : Decoded} {order out after : List ℕ} {code : ℕ} 
     says = q;
   }
 
-  module _ (e : d.ok ≡ true) (g : CompiledGraph) (h : CompilesAs d.model t g) where
-    pub compile_stopped : (f : ModelError) (k : ℕ) → g.answer ≡ Refused f → k ≡ ending_code g.answer
-        → Says (record { code = k; index = g.index; tag = bytes_of g.tag; number = 0 }) out after code → Compiles s t order order out after code
-    compile_stopped f k q r v = record {
-      ending = stopped (number_of f) (bytes_of g.tag) g.index;
+  module _ (e : d.ok ≡ true) where
+    pub compile_stopped : {r : Refusal} {k : ℕ} → RefusesAs d.model t r → k ≡ number_of r.error → Says (record { code = k; index = r.index; tag = bytes_of r.tag; number = 0 }) out after code
+        → Compiles s t order order out after code
+    compile_stopped {r} h q v = record {
+      ending = stopped (number_of r.error) (bytes_of r.tag) r.index;
       tags = [];
-      defined =
-          ends t x e (stopped (number_of f) (bytes_of g.tag) g.index) []
-          (subst (λ (z : Compiling). Compiled (view d.model) t (ending_of z (bytes_of g.tag) g.index) (map (tag_at d.model) (take (count_of z) g.order))) q (compiled d.model t x.sizes h));
+      defined = ends t x e (stopped (number_of r.error) (bytes_of r.tag) r.index) [] (refused_as d.model t x.sizes r h);
       laid = order-none order;
-      says = says_as v (ap {B = Report} (λ (n : ℕ). record { code = n; index = g.index; tag = bytes_of g.tag; number = 0 }) (r ∙ ap ending_code q));
+      says = says_as v (ap {B = Report} (λ (n : ℕ). record { code = n; index = r.index; tag = bytes_of r.tag; number = 0 }) q);
     }
 
-    pub compile_ordered : (n : ℕ) {written : List ℕ} (u : Tag) → g.answer ≡ Ordered n → OrderIn (tags_of d.model g) order written → u ≡ empty
-        → Says (record { code = 0; index = 0; tag = u; number = n }) out after code → Compiles s t order written out after code
-    compile_ordered n u q w r v = record {
+    pub compile_ordered : {g : Graph} {written : List ℕ} {u : Tag} → OrdersAs d.model t g → OrderIn (tags_of d.model g) order written → u ≡ empty
+        → Says (record { code = 0; index = 0; tag = u; number = g.count }) out after code → Compiles s t order written out after code
+    compile_ordered {g} h w r v = record {
       ending = ordered;
       tags = tags_of d.model g;
-      defined =
-          ends t x e ordered (tags_of d.model g)
-          (subst (λ (z : Compiling). Compiled (view d.model) t (ending_of z (bytes_of g.tag) g.index) (tags_of d.model g)) q (compiled d.model t x.sizes h));
+      defined = ends t x e ordered (tags_of d.model g) h.compiled;
       laid = w;
-      says =
-          says_as v
-          (ap₂ {C = Report} (λ (a : Tag) (k : ℕ). record { code = 0; index = 0; tag = a; number = k }) r
-          (sym (tags-count d.model g n (record { target = t; compiled = h; count = q }))));
+      says = says_as v (ap₂ {C = Report} (λ (a : Tag) (k : ℕ). record { code = 0; index = 0; tag = a; number = k }) r (sym (tags-count d.model g (record { target = t; compiled = h }))));
     }

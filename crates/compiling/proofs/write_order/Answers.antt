@@ -5,8 +5,5 @@ use Rattle.compiling.proofs.write_order.Goals as goal
 pub returns-then-order-lt2560 : goal.returns-then-order-lt2560
 returns-then-order-lt2560 c = order-narrow _ _ c.if-order-lt2560.true
 
-pub write_tags-requires : goal.write_tags-requires
-write_tags-requires c = (c.requires, c.if-order-lt2560.false)
-
 pub returns : goal.returns
-returns c = order-wrote c.args.m c.args.g c.args.n c.requires c.if-order-lt2560.false c.write_tags.ensures
+returns c = order-wrote c.args.m.now c.args.g.now c.requires c.if-order-lt2560.false c.write_tags.ensures

@@ -8,7 +8,6 @@ use native.Mathlib.Omega.{arith}
 use lib.Ieee.{Float, binary64, to_bits}
 use lib.ListN.{length}
 use Rattle.tag.specs.Tags.{Tag, empty}
-use Rattle.tag.specs.View.{bytes_of}
 use Rattle.geometry.specs.declared.vec3f.Vec3.{Vec3}
 use Rattle.model.specs.declared.implicit_model.Model.{Model as Record}
 use Rattle.model.specs.Model.{Model, new, Same, valid}
@@ -72,9 +71,9 @@ module _ (o : Option (List Edit)) (target : Tag) (p : Vec3) {s out written : Lis
   }
 
   module _ {t : List ℕ} {d : Decoded} {a : AfterList} {r : ℕ} (held : Decodes s d) (ok : d.ok ≡ true) (h : After o d.model target p a)
-      (k : Replied (reply_of a.evaluation.answer (bytes_of a.evaluation.tag) a.evaluation.index) out written r) (w : Written a.model s t r) where
+      (k : Replied (reply_of a.reply) out written r) (w : Written a.model s t r) where
     abbrev reply : Reply
-    reply = reply_of a.evaluation.answer (bytes_of a.evaluation.tag) a.evaluation.index
+    reply = reply_of a.reply
 
     unlisted : o ≡ none → reply ≡ handed 7 empty 0
     unlisted q = (subst (λ (y : Option (List Edit)). Promised y d.model target p a.model reply) q h.promised).reply

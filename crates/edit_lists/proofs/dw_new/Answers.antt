@@ -6,4 +6,4 @@ pub returns-then-model-ne27200 : goal.returns-then-model-ne27200
 returns-then-model-ne27200 c = begun_7 c.if-model-ne27200.true c.tell_7.ensures
 
 pub returns : goal.returns
-returns c = begun_new c.if-model-ne27200.false c.new-m.ensures c.put_model.ensures c.tell_done.ensures
+returns c = begun_new c.if-model-ne27200.false c.new.ensures c.put_model.ensures c.tell_done.ensures

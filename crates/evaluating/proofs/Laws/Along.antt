@@ -5,7 +5,7 @@ use native.Mathlib.Omega.{arith}
 use native.Mathlib.Decide.{dec_lt}
 use mathlib.Core.Path.{◌≡◌, refl, sym, ap, ap₂, subst, ◌∙◌}
 use mathlib.Core.Logic.{◌⊎◌, inl, inr, ⊎_elim}
-use mathlib.Core.Bool.{Bool, true, false, cond, not, true≢false}
+use mathlib.Core.Bool.{Bool, cond, not, true≢false}
 use mathlib.Core.List.Memᴰ
 use mathlib.Core.List.{List, [], ◌∷◌, ◌++◌, map, Memᴰ}
 use mathlib.Core.Option.{none, some}
@@ -14,29 +14,24 @@ use lib.Ieee.{Float, nan, binary64, to_bits}
 use lib.ListN.{length, get_or, take, drop, set, length-set, length-take, length-map, length-append, get_or-map}
 use lib.Seq.{take-suc, split_at, take-take, get_or-take, length-take-le, get_or-set_same, get_or-set_other}
 use borrow.Author.Tests.{lt-ltb}
-use Rattle.tag.specs.Tags.{Tag, overlong, empty}
+use Rattle.std.specs.Prelude.{Some, Result, Ok, Err, IsErrAnd}
+use Rattle.tag.specs.Tags.{Tag, overlong}
 use Rattle.tag.specs.View.{bytes_of}
-use Rattle.tag.specs.declared.Tag.{Tag as Label}
 use Rattle.geometry.specs.declared.vec3f.Vec3.{Vec3}
 use Rattle.component.specs.Value.{compute}
 use Rattle.model.specs.declared.implicit_model.Model.{Model as Record}
-use Rattle.held.specs.declared.find.Found.TheVariants.{At}
-use Rattle.model.specs.declared.model_error.ModelError.{ModelError}
-use Rattle.model.specs.declared.model_error.ModelError.TheVariants.{InvalidModel}
-use Rattle.model.specs.Answer.{number_of}
+use Rattle.model.specs.declared.model_error.Refusal.{Refusal}
+use Rattle.model.specs.Edit.{Answer, done, made, refused}
 use Rattle.model.specs.Model.{Place, Model, component, inputs, valid}
-use Rattle.model.specs.Form.{Wire, Compiles, Placed, start, then, Order, ordered, stopped, Compiled, order, refusal, value, Number, worked, Numbers, nothing, another, bits, handed, Evaluated, number, refused_by}
-use Rattle.model.specs.View.{component_of, components_of, view, passes}
+use Rattle.model.specs.Form.{Wire, Compiles, Placed, start, then, Order, ordered, stopped, Compiled, order, refusal, value, Number, worked, Numbers, nothing, another, Reply, bits, handed, Evaluated, number, refused_by}
+use Rattle.model.specs.View.{component_of, components_of, view}
 use Rattle.held.specs.Search.{position}
 use Rattle.held.proofs.Laws.Rows.{no_entry, rows-length}
 use Rattle.held.proofs.Laws.Standing.{Standing, standing}
-use Rattle.graph.specs.declared.computation_graph.Compiling.{Compiling}
-use Rattle.graph.specs.declared.computation_graph.Compiling.TheVariants.{Ordered, Refused}
-use Rattle.graph.specs.declared.computation_graph.CompiledGraph.{CompiledGraph}
-use Rattle.evaluating.specs.declared.evaluate.Evaluating.TheVariants.{Number as Bits, Refused as Handed}
+use Rattle.graph.specs.declared.computation_graph.Graph.{Graph}
 use Rattle.nodes.specs.Nodes.{◌∈◌}
 use Rattle.resolving.specs.Slots.{look, place_want, node_of, settled}
-use Rattle.graph.specs.Compile.{count_of, ending_of, tag_at, CompilesAs}
+use Rattle.graph.specs.Compile.{tag_at, OrdersAs, RefusesAs}
 use Rattle.evaluating.specs.Evaluate.{input_of, EvaluatesAs}
 use Rattle.nodes.proofs.Laws.Order.{snoc_cut, no_cut}
 use Rattle.nodes.proofs.Laws.Wires.{take_at}
@@ -110,33 +105,26 @@ pub record Worked (m : Record) (order : List ℕ) (p : Vec3) (vals : List Float)
   pub vals_length : length vals ≡ 64
   pub right : (i : ℕ) → i ∈ take k order → Number (view m) p (tag_at m i) (get_or vals i nan)
 
-module _ (m : Record) (g : CompiledGraph) (n : ℕ) (count : g.answer ≡ Ordered n) (t : Tag) (says : CompilesAs m t g) where
-  pass : passes m ≡ true
-  pass = go (passes m) refl
-    where
-      go : (b : Bool) → passes m ≡ b → b ≡ true
-      go true e = refl
-      go false e = let q : g.answer ≡ Refused _ = (says.unfit e).0 in absurd (let z : ◌≡◌ {A = ℕ} 0 1 = cc in let y : ⊥ = omega arith in y)
+module _ (m : Record) (g : Graph) (t : Tag) (says : OrdersAs m t g) where
+  abbrev n : ℕ
+  n = g.count
 
   fit : Standing m
-  fit = standing m pass
+  fit = standing m says.passing
 
   pub shaped : Formed (view m) t (map (tag_at m) (take n g.order))
-  shaped = formed (subst (λ (z : Compiling). Compiled (view m) t (ending_of z (bytes_of g.tag) g.index) (map (tag_at m) (take (count_of z) g.order))) count (says.fitting pass))
+  shaped = formed says.compiled
 
   pub room : n ≤ length g.order
-  room = omega (arith, subst (λ (z : Compiling). length (take (count_of z) g.order) ≡ count_of z) count says.counted, length-take n g.order)
-
-  pub few : n ≤ 64
-  few = subst (λ (z : Compiling). count_of z ≤ 64) count says.few
+  room = omega (arith, says.counted, length-take n g.order)
 
   held : (x : ℕ) → x ∈ take n g.order → x < length (components_of m)
-  held x h = says.held x (subst (λ (z : Compiling). x ∈ take (count_of z) g.order) (sym count) h)
+  held = says.held
 
   pub small : (k : ℕ) → k < n → get_or g.order k 0 < 64
   small k h = omega (arith, held _ (take_at g.order n k h room), rows-length component_of m.components m.component_count, fit.few)
 
-  seated : (x : ℕ) → x ∈ take n g.order → position (tag_at m x) 0 (components_of m) ≡ At x
+  seated : (x : ℕ) → x ∈ take n g.order → position (tag_at m x) 0 (components_of m) ≡ Some x
   unfolding bytes_of
   seated x h = position_at (component_of no_entry) (components_of m) x (tag_at m x) fit.once (held x h) (sym (get_or-map (λ e. e.0) (components_of m) x (component_of no_entry)))
 
@@ -165,14 +153,14 @@ module _ (m : Record) (g : CompiledGraph) (n : ℕ) (count : g.answer ≡ Ordere
     read q = input_of vals (get_or g.inputs (x * 3 + q) 0)
 
     entry : (q : ℕ) → q < 3 → get_or g.inputs (x * 3 + q) 0 ≡ settled m (place_want places q)
-    entry q hq = says.wired x q (subst (λ (z : Compiling). x ∈ take (count_of z) g.order) (sym count) x_in) hq
+    entry q hq = says.wired x q x_in hq
 
     -- a place's number is what was worked out for its tag
     read_number : (q : ℕ) (b : Tag) → q < 3 → place_want places q ≡ look b → Number (view m) p b (read q)
     read_number q b hq e =
         let (y, i, f) = map_mem_inv (tag_at m) (take k g.order) (cut.1 b (want_names places q e)) in
         let lt : y < 64 = omega (arith, held y (earlier y i), rows-length component_of m.components m.component_count, fit.few) in
-        let s : y ≡ node_of m b = node_hit m b y (subst (λ (a : Tag). position a 0 (components_of m) ≡ At y) f (seated y (earlier y i))) in
+        let s : y ≡ node_of m b = node_hit m b y (subst (λ (a : Tag). position a 0 (components_of m) ≡ Some y) f (seated y (earlier y i))) in
         let r : get_or g.inputs (x * 3 + q) 0 ≡ y = entry q hq ∙ ap (settled m) e ∙ sym s in
         let v : read q ≡ get_or vals y nan = ap (input_of vals) r ∙ ap (λ (c : Bool). cond c (get_or vals y nan) nan) (lt-ltb y 64 lt) in
         subst (λ (z : Float). Number (view m) p b z) (sym v) (subst (λ (a : Tag). Number (view m) p a (get_or vals y nan)) f (w.right y i))
@@ -186,7 +174,7 @@ module _ (m : Record) (g : CompiledGraph) (n : ℕ) (count : g.answer ≡ Ordere
     pub next-number : (v : Float) → v ≡ compute (get_or m.components x no_entry).component p (read 0) (read 1) (read 2) → Number (view m) p (tag_at m x) v
     unfolding value
     next-number v e =
-        let (xs, ns, same, past) = numbers_of places read (λ i. shaped.compiles.assigned (tag_at m x) (shaped.order.reached (tag_at m x) there, i)) (λ q b hq f. read_number q b (omega (arith, inputs_short m pass (tag_at m x))) f) in
+        let (xs, ns, same, past) = numbers_of places read (λ i. shaped.compiles.assigned (tag_at m x) (shaped.order.reached (tag_at m x) there, i)) (λ q b hq f. read_number q b (omega (arith, inputs_short m says.passing (tag_at m x))) f) in
         worked (get_or m.components x no_entry).component xs (holds x x_in) ns
         (sym (e ∙ three (compute (get_or m.components x no_entry).component p) (sym (all xs same past 0 (omega arith))) (sym (all xs same past 1 (omega arith))) (sym (all xs same past 2 (omega arith)))))
       where
@@ -240,26 +228,21 @@ module _ (m : Record) (g : CompiledGraph) (n : ℕ) (count : g.answer ≡ Ordere
 
   -- ---- the reply
 
-  pub replies : (p : Vec3) (x : Float) → Number (view m) p t x → (b : ℕ) → b ≡ to_bits binary64 x → (e : Label) → bytes_of e ≡ empty
-      → EvaluatesAs m t p (record { answer = Bits b; tag = e; index = 0 })
-  replies p x h b q e f = record {
+  pub replies : (p : Vec3) (x : Float) → Number (view m) p t x → (b : ℕ) → b ≡ to_bits binary64 x → EvaluatesAs m t p (Ok b)
+  replies p x h b q = record {
     fitting = λ s. subst (λ (z : ℕ). Evaluated (view m) t p (bits z)) (sym q) (number shaped.sound shaped.short shaped.compiles h);
-    unfit = λ s. absurd (true≢false (sym pass ∙ s));
-    plain = λ c s. (f, refl);
+    unfit = λ s. absurd (true≢false (sym says.passing ∙ s));
   }
 
 -- compile's refusal handed on
 handed_from : {m : Model} {t : Tag} {p : Vec3} {n : ℕ} {a : Tag} {i : ℕ} {o : List Tag} → Compiled m t (stopped n a i) o → Evaluated m t p (handed n a i)
 handed_from (refusal r) = refused_by r
 
-pub hands_on : (m : Record) (g : CompiledGraph) (t : Tag) (p : Vec3) → CompilesAs m t g → (e : ModelError) → g.answer ≡ Refused e → (f : ModelError) → f ≡ e
-    → EvaluatesAs m t p (record { answer = Handed f; tag = g.tag; index = g.index })
-hands_on m g t p says e q f r = record {
-  fitting = λ s. subst (λ (z : ModelError). Evaluated (view m) t p (handed (number_of z) (bytes_of g.tag) g.index)) (sym r)
-      (handed_from (subst (λ (z : Compiling). Compiled (view m) t (ending_of z (bytes_of g.tag) g.index) (map (tag_at m) (take (count_of z) g.order))) q (says.fitting s)));
-  unfit = λ s. let (x, y, z) = says.unfit s in let w : f ≡ InvalidModel = r ∙ inside (sym q ∙ x) in ap (λ (v : ModelError). handed (number_of v) (bytes_of g.tag) g.index) w ∙ ap₂ (handed 7) y z;
-  plain = λ b s. absurd (let z : ◌≡◌ {A = ℕ} 0 1 = cc in let y : ⊥ = omega arith in y);
-}
+pub hands_on : (m : Record) (t : Tag) (p : Vec3) {r : Refusal} → RefusesAs m t r → (a : Result ℕ Refusal) → IsErrAnd a (λ x. x ≡ r) → EvaluatesAs m t p a
+hands_on m t p says (Ok b) h = absurd h
+hands_on m t p {r} says (Err x) h = subst (λ (z : Refusal). EvaluatesAs m t p (Err z)) (sym h) (record { fitting = λ s. handed_from (says.fitting s); unfit = λ s. ap reply (says.unfit s) })
   where
-    inside : {a b : ModelError} → Refused a ≡ Refused b → a ≡ b
-    inside h = cc
+    reply : Answer → Reply
+    reply (refused n a i) = handed n a i
+    reply done = bits 0
+    reply (made a) = bits 0

@@ -5,39 +5,38 @@ use native.Mathlib.Decide.{dec_lt}
 use mathlib.Core.Path.{◌≡◌, refl, sym, ap, ap₂, subst, ◌∙◌}
 use mathlib.Core.Bool.{Bool, true, false, cond, not, true≢false, false≢true}
 use mathlib.Core.List.Memᴰ
-use mathlib.Core.List.{List, [], ◌∷◌, map, Memᴰ}
+use mathlib.Core.List.{List, [], ◌∷◌, ◌++◌, map, Memᴰ, append-nil}
+use native.Mathlib.Nat.{min-eq_left, min-eq_right}
 use mathlib.Core.Option
 use mathlib.Core.Option.{Option, none, some}
 use lib.Dec.{T, ltb}
-use lib.ListN.{length, get_or, take, get_or-map}
-use lib.Seq.{get_or-take, take-take, length-take-le}
+use lib.ListN.{length, get_or, take, drop, replicate, get_or-map, length-append, length-drop, length-replicate}
+use lib.Seq.{get_or-take, length-take-le, take_all, take_at}
 use borrow.Author.Tests.{lt-ltb, ltb-true}
+use Rattle.std.specs.Prelude.{Option as Maybe, Some, None, Result, Ok, Err, IsErrAnd}
 use Rattle.tag.specs.Tags.{Tag, before, overlong, empty}
 use Rattle.tag.specs.View.{bytes_of}
-use Rattle.tag.specs.declared.Tag.{Tag as Label}
 use Rattle.tag.proofs.Laws.Order.{before_irrefl}
 use Rattle.model.specs.declared.implicit_model.Model.{Model as Record}
-use Rattle.held.specs.declared.find.Found.{Found}
-use Rattle.held.specs.declared.find.Found.TheVariants.{At, Nothing}
-use Rattle.model.specs.declared.model_error.ModelError.{ModelError}
-use Rattle.model.specs.declared.model_error.ModelError.TheVariants.{InvalidModel, MissingTag, MissingInput}
-use Rattle.model.specs.Answer.{number_of}
+use Rattle.model.specs.declared.model_error.Refusal.{Refusal}
+use Rattle.model.specs.Answer.{refusal_of}
+use Rattle.model.specs.Edit.{Answer, done, made, refused}
 use Rattle.model.specs.Model.{Place, inputs, valid}
 use Rattle.model.specs.Walk.{gap}
-use Rattle.model.specs.Form.{Wire, Reach, here, along, Cyclic, Absent, Gapped, Compiles, Refuses, long, cyclic, absent, gapped, Order, Compiled, order, refusal}
+use Rattle.model.specs.Form.{Wire, Reach, here, along, Cyclic, Absent, Gapped, Compiles, Refuses, long, cyclic, absent, gapped, Order, Compiling, stopped, ordered, Compiled, order, refusal}
 use Rattle.model.specs.View.{place_of, rows, component_of, components_of, lists_of, view, passes}
 use Rattle.held.specs.Search.{position}
 use Rattle.model.proofs.Laws.Bool.{T→true, true→T}
 use Rattle.held.proofs.Laws.Rows.{no_entry, no_list, rows_at}
 use Rattle.held.proofs.Laws.Standing.{Standing, standing, passes-valid}
-use Rattle.lacking.specs.declared.least.Best.{Best}
-use Rattle.graph.specs.declared.computation_graph.Compiling.{Compiling}
-use Rattle.graph.specs.declared.computation_graph.CompiledGraph.{CompiledGraph}
-use Rattle.nodes.specs.Nodes.{◌∈◌, Circular, IsOrder, inputs_of, IsReach, filled_of, whole_of}
+use Rattle.lacking.specs.declared.least.Shown.{Shown}
+use Rattle.graph.specs.declared.computation_graph.Graph.{Graph}
+use Rattle.nodes.specs.declared.LaidOut.{LaidOut}
+use Rattle.nodes.specs.Nodes.{LaysOut, ◌∈◌, Circular, IsOrder, inputs_of, IsReach, Marks, filled_of, whole_of}
 use Rattle.resolving.specs.Slots.{look, place_want, want_of, node_of, settled, slots, Resolved}
 use Rattle.graph.specs.Wiring.{Wired}
-use Rattle.lacking.specs.Least.{LeastOf, AbsentShown, GapShown}
-use Rattle.graph.specs.Compile.{count_of, ending_of, tag_at, positions_of, CompilesAs, Stopped, Placing, Formed}
+use Rattle.lacking.specs.Least.{LeastIs, LeastOf, AbsentShown, GapShown}
+use Rattle.graph.specs.Compile.{tag_at, positions_of, CompilesAs, Filled, Placing, Formed}
 use Rattle.nodes.proofs.Laws.Order.{laid-length, order-acyclic}
 use Rattle.nodes.proofs.Laws.Wires.{up_to, length_up_to, mem_up_to}
 use Rattle.resolving.proofs.Laws.Node.{node-within, name_of, Seat, component_at, list_at, nowhere, seat, name-node, node-none, node-component, absent-node, node-absent, listed-node, list_row, entry_row, unlisted}
@@ -47,36 +46,45 @@ use Rattle.resolving.proofs.Laws.Slots.{owner, listed_at, inputs_short, inputs_a
 use Rattle.graph.proofs.Laws.Drawing.{drawn}
 use Rattle.lacking.proofs.Laws.Least.{gap_there, there_gap}
 
+-- ---- what is copied
+
+pub filled : (xs new : List ℕ) (n : ℕ) → n ≡ min (length xs) 64 → new ≡ take n xs → Filled xs (new ++ drop n (replicate 64 0))
+filled xs new n e f = record { r_length = size; same = by (dec_lt 64 (length xs)) }
+  where
+    front : length new ≡ n
+    front = ap length f ∙ length-take-le n xs (omega (arith, e))
+
+    size : length (new ++ drop n (replicate 64 0)) ≡ 64
+    size = omega (arith, length-append new (drop n (replicate 64 0)), length-drop n (replicate {A = ℕ} 64 0), length-replicate {A = ℕ} 64 0, front, e)
+
+    by : Dec (64 < length xs) → take (length xs) (new ++ drop n (replicate 64 0)) ≡ take 64 xs
+    by (yes h) = let k : n ≡ 64 = e ∙ min-eq_right (omega arith) in
+        take_all (length xs) (new ++ drop n (replicate 64 0)) (omega (arith, size)) ∙ ap (λ (j : ℕ). new ++ drop j (replicate 64 0)) k ∙ append-nil new ∙ f ∙ ap (λ (j : ℕ). take j xs) k
+    by (no h) = let k : n ≡ length xs = e ∙ min-eq_left (omega arith) in
+        ap (λ (j : ℕ). take j (new ++ drop n (replicate 64 0))) (sym k) ∙ take_at new (drop n (replicate 64 0)) n front ∙ f ∙ ap (λ (j : ℕ). take j xs) k ∙ take_all (length xs) xs (omega arith) ∙ sym (take_all 64 xs (omega arith))
+
 -- ---- a refusal
 
-pub unfit : (m : Record) (t : Tag) (u : Label) (r : CompiledGraph) → passes m ≡ false → bytes_of u ≡ empty → Stopped InvalidModel u 0 r → CompilesAs m t r
-unfit m t u r e f s = record {
-  fitting = λ p. absurd (true≢false (sym p ∙ e));
-  unfit = λ q. (s.answer, ap bytes_of s.tag ∙ f, s.index);
-  counted = subst (λ (z : Compiling). length (take (count_of z) r.order) ≡ count_of z) (sym s.answer) refl;
-  few = subst (λ (z : Compiling). count_of z ≤ 64) (sym s.answer) (omega arith);
-  held = λ i h. absurd (Memᴰ.not-nil (subst (λ (z : Compiling). Memᴰ i (take (count_of z) r.order)) s.answer h));
-  plain = λ n q. absurd (let z : ◌≡◌ {A = ℕ} 0 1 = cc s.answer in let y : ⊥ = omega arith in y);
-  wired = λ i p h. absurd (Memᴰ.not-nil (subst (λ (z : Compiling). Memᴰ i (take (count_of z) r.order)) s.answer h));
-}
+module _ (m : Record) (t : Tag) where
+  pub stops : {n i : ℕ} {u : Tag} → passes m ≡ true → Refuses (view m) t n u i → (r : Refusal) → refusal_of r ≡ refused n u i → CompilesAs m t (Err r)
+  stops p f r e = record {
+    fitting = λ q. subst (λ (z : Compiling). Compiled (view m) t z []) (sym (ap ending e)) (refusal f);
+    unfit = λ q. absurd (true≢false (sym p ∙ q));
+  }
+    where
+      ending : Answer → Compiling
+      ending (refused n u i) = stopped n u i
+      ending done = ordered
+      ending (made u) = ordered
 
-pub stops : (m : Record) (t : Tag) (e : ModelError) (u : Label) (i : ℕ) (r : CompiledGraph) → passes m ≡ true → Refuses (view m) t (number_of e) (bytes_of u) i → Stopped e u i r → CompilesAs m t r
-stops m t e u i r p f s = record {
-  fitting = λ q. says;
-  unfit = λ q. absurd (true≢false (sym p ∙ q));
-  counted = subst (λ (z : Compiling). length (take (count_of z) r.order) ≡ count_of z) (sym s.answer) refl;
-  few = subst (λ (z : Compiling). count_of z ≤ 64) (sym s.answer) (omega arith);
-  held = λ i h. absurd (Memᴰ.not-nil (subst (λ (z : Compiling). Memᴰ i (take (count_of z) r.order)) s.answer h));
-  plain = λ n q. absurd (let z : ◌≡◌ {A = ℕ} 0 1 = cc s.answer in let y : ⊥ = omega arith in y);
-  wired = λ i p h. absurd (Memᴰ.not-nil (subst (λ (z : Compiling). Memᴰ i (take (count_of z) r.order)) s.answer h));
-}
-  where
-    says : Compiled (view m) t (ending_of r.answer (bytes_of r.tag) r.index) (map (tag_at m) (positions_of r))
-    says = rw (s.answer, s.tag, s.index) (refusal f)
+  -- handed on by `?`
+  pub unfit : (a : Result Graph Refusal) (r : Refusal) → IsErrAnd a (λ x. x ≡ r) → passes m ≡ false → refusal_of r ≡ refused 7 empty 0 → CompilesAs m t a
+  unfit (Ok g) r h f e = absurd h
+  unfit (Err x) r h f e = record { fitting = λ q. absurd (true≢false (sym q ∙ f)); unfit = λ q. ap refusal_of h ∙ e }
 
-pub says-long : (m : Record) → passes m ≡ true → (t : Tag) → 32 < length t → (u : Label) → bytes_of u ≡ empty → Refuses (view m) t 1 (bytes_of u) 0
-unfolding overlong
-says-long m p t h u e = subst (λ (z : Tag). Refuses (view m) t 1 z 0) (sym e) (long (passes-valid m p) (true→T (ltb 32 (length t)) (lt-ltb 32 (length t) h)))
+  pub too_long : (a : Result Graph Refusal) → IsErrAnd a (λ x. refusal_of x ≡ refused 1 empty 0) → passes m ≡ true → overlong t ≡ true → CompilesAs m t a
+  too_long (Ok g) h p e = absurd h
+  too_long (Err x) h p e = stops p (long (passes-valid m p) (true→T (overlong t) e)) x h
 
 -- ---- the target's form, where 7 and 1 let it pass
 
@@ -101,7 +109,7 @@ module _ (m : Record) (pass : passes m ≡ true) (t : Tag) (size : overlong t �
         (λ c. Memᴰ.not-nil (subst (λ (l : List Place). Memᴰ (some c.next) l) (node-none m fit t nowhere-at) (subst (λ (z : Tag). Wire (view m) z c.next) (alone c.tag c.reached) c.wire)))
         ((here, node-absent m fit t (omega arith)), λ b h a. true≢false (sym (T→true _ (subst (λ (z : Tag). T (before z t)) (alone b a.0) h)) ∙ before_irrefl t))
 
-  module _ (longs : length m.lists ≡ 128) (found : List ℕ) (r : Resolved no_list m found) (n : ℕ) (live : n ≡ min m.list_count 128) (w : List ℕ) (g : Wired found n w) (small : node_of m t < 192) where
+  module _ (longs : min m.list_count (length m.lists) ≡ min m.list_count 128) (found : List ℕ) (r : Resolved no_list m found) (n : ℕ) (live : n ≡ min m.list_count 128) (w : List ℕ) (g : Wired found n w) (small : node_of m t < 192) where
     d : Drawn m w
     d = drawn m pass longs found r n live w g
 
@@ -110,39 +118,39 @@ module _ (m : Record) (pass : passes m ≡ true) (t : Tag) (size : overlong t �
 
     -- ---- marks
 
-    module _ (line : List ℕ) (len : ℕ) (seen : List ℕ) (reach : IsReach w (node_of m t) line len seen) where
-      mark : (a : Tag) → Reach (view m) t a → node_of m a < 192 → get_or seen (node_of m a) 0 ≡ 1
-      mark a q h = (reach.listed.marks (node_of m a) h).1 (reach.all (node_of m a) (reach_up d t small a q h))
+    module _ (line : List ℕ) (seen : List Bool) (reach : IsReach w (node_of m t) line) (marks : Marks line seen) where
+      mark : (a : Tag) → Reach (view m) t a → node_of m a < 192 → get_or seen (node_of m a) false ≡ true
+      mark a q h = (marks.marks (node_of m a) h).1 (reach.all (node_of m a) (reach_up d t small a q h))
 
-      unmark : (a : Tag) → node_of m a < 192 → get_or seen (node_of m a) 0 ≡ 1 → Reach (view m) t a
-      unmark a h e = subst (Reach (view m) t) (name-node m fit a h) (reach_down d t small (node_of m a) (reach.only (node_of m a) ((reach.listed.marks (node_of m a) h).0 e))).1
+      unmark : (a : Tag) → node_of m a < 192 → get_or seen (node_of m a) false ≡ true → Reach (view m) t a
+      unmark a h e = subst (Reach (view m) t) (name-node m fit a h) (reach_down d t small (node_of m a) (reach.only (node_of m a) ((marks.marks (node_of m a) h).0 e))).1
 
       -- a marked list's tag is reached, and a reached tag's list is marked
-      list-reached : (l : ℕ) → l < min m.list_count 128 → get_or seen (get_or found (l * 4) 0) 0 ≡ 1 → Reach (view m) t (tag_of m pass longs found r l)
+      list-reached : (l : ℕ) → l < min m.list_count 128 → get_or seen (get_or found (l * 4) 0) false ≡ true → Reach (view m) t (tag_of m pass longs found r l)
       list-reached l h e =
           let a = tag_of m pass longs found r l in
-          unmark a (listed-node m fit a l (listed_at m pass longs found r l h)) (subst (λ (z : ℕ). get_or seen z 0 ≡ 1) (owner m pass longs found r l h) e)
+          unmark a (listed-node m fit a l (listed_at m pass longs found r l h)) (subst (λ (z : ℕ). get_or seen z false ≡ true) (owner m pass longs found r l h) e)
 
       record Kept (a : Tag) : Type 0 where
         pub at : ℕ
         pub within : at < min m.list_count 128
-        pub stands : position a 0 (lists_of m) ≡ At at
+        pub stands : position a 0 (lists_of m) ≡ Some at
         pub tag : tag_of m pass longs found r at ≡ a
-        pub marked : get_or seen (get_or found (at * 4) 0) 0 ≡ 1
+        pub marked : get_or seen (get_or found (at * 4) 0) false ≡ true
 
-      kept_at : (a : Tag) → Reach (view m) t a → (l : ℕ) → position a 0 (lists_of m) ≡ At l → Kept a
+      kept_at : (a : Tag) → Reach (view m) t a → (l : ℕ) → position a 0 (lists_of m) ≡ Some l → Kept a
       kept_at a q l e =
           let row = list_row m a l e in
           let h : l < min m.list_count 128 = omega (arith, row.below, fit.few_lists) in
           let o : get_or found (l * 4) 0 ≡ node_of m a = owner m pass longs found r l h ∙ ap (node_of m) row.tag in
-          record { at = l; within = h; stands = e; tag = row.tag; marked = ap (λ (z : ℕ). get_or seen z 0) o ∙ mark a q (listed-node m fit a l e) }
+          record { at = l; within = h; stands = e; tag = row.tag; marked = ap (λ (z : ℕ). get_or seen z false) o ∙ mark a q (listed-node m fit a l e) }
 
       kept : (a : Tag) → Reach (view m) t a → (p : Place) → Memᴰ p (inputs (view m) a) → Kept a
       kept a q p k = go (position a 0 (lists_of m)) refl
         where
-          go : (f : Found) → position a 0 (lists_of m) ≡ f → Kept a
-          go (At l) e = kept_at a q l e
-          go Nothing e = absurd (Memᴰ.not-nil (subst (λ (l : List Place). Memᴰ p l) (ap (λ (o : Option (List Place)). Option.get_or o []) (unlisted m a e)) k))
+          go : (f : Maybe ℕ) → position a 0 (lists_of m) ≡ f → Kept a
+          go (Some l) e = kept_at a q l e
+          go None e = absurd (Memᴰ.not-nil (subst (λ (l : List Place). Memᴰ p l) (ap (λ (o : Option (List Place)). Option.get_or o []) (unlisted m a e)) k))
 
       -- ---- 12
 
@@ -168,7 +176,7 @@ module _ (m : Record) (pass : passes m ≡ true) (t : Tag) (size : overlong t �
       show a b k q hq e h = record {
         slot = k.at * 4 + q;
         below = omega (arith, k.within);
-        marked = subst (λ (z : ℕ). get_or seen (get_or found (z * 4) 0) 0 ≡ 1) (sym y) k.marked;
+        marked = subst (λ (z : ℕ). get_or seen (get_or found (z * 4) 0) false ≡ true) (sym y) k.marked;
         names = ap₂ (λ (u v : ℕ). want_of (get_or m.lists u no_list) v) y z ∙ e;
         absent = h;
         index = refl;
@@ -200,7 +208,7 @@ module _ (m : Record) (pass : passes m ≡ true) (t : Tag) (size : overlong t �
       shown_gap : (a : Tag) (i : ℕ) → GapShown no_list m found seen (min m.list_count 128) a i → Gapped (view m) t a × (gap 0 (inputs (view m) a) ≡ some i)
       shown_gap a i h =
           let f : tag_of m pass longs found r h.list ≡ a = h.tag in
-          let e : gap 0 (inputs (view m) a) ≡ some i = ap (gap 0) (inputs_at m pass longs found r a h.list (subst (λ (z : Tag). position z 0 (lists_of m) ≡ At h.list) f (listed_at m pass longs found r h.list h.below))) ∙ h.gap in
+          let e : gap 0 (inputs (view m) a) ≡ some i = ap (gap 0) (inputs_at m pass longs found r a h.list (subst (λ (z : Tag). position z 0 (lists_of m) ≡ Some h.list) f (listed_at m pass longs found r h.list h.below))) ∙ h.gap in
           ((subst (Reach (view m) t) f (list-reached h.list h.below h.marked), gap_there (inputs (view m) a) 0 e), e)
 
       gap_shown : (a : Tag) → Gapped (view m) t a → (i : ℕ) × GapShown no_list m found seen (min m.list_count 128) a i
@@ -211,8 +219,8 @@ module _ (m : Record) (pass : passes m ≡ true) (t : Tag) (size : overlong t �
 
       -- ---- where every reached node is whole, nothing is absent and nothing is gapped
 
-      module _ (whole : (x : ℕ) → x ∈ take len line → whole_of w x ≡ true) where
-        parts : (x : ℕ) → x ∈ take len line → (x < 64) × ((p : ℕ) → p < 3 → filled_of (get_or w (x * 3 + p) 0) ≡ true)
+      module _ (whole : (x : ℕ) → x ∈ line → whole_of w x ≡ true) where
+        parts : (x : ℕ) → x ∈ line → (x < 64) × ((p : ℕ) → p < 3 → filled_of (get_or w (x * 3 + p) 0) ≡ true)
         parts x k = go (ltb x 64) refl (whole x k)
           where
             three : (a b c : Bool) → cond a (cond b c false) false ≡ true → (a ≡ true) × (b ≡ true) × (c ≡ true)
@@ -261,24 +269,24 @@ module _ (m : Record) (pass : passes m ≡ true) (t : Tag) (size : overlong t �
 
       -- ---- the answers
 
-      module _ (xs : List ℕ) (o : IsOrder (inputs_of w) (node_of m t) xs) (b : Best) (least : LeastOf (AbsentShown no_list m found seen (slots m)) b) where
+      module _ (xs : List ℕ) (o : IsOrder (inputs_of w) (node_of m t) xs) where
         acyclic : ¬ Cyclic (view m) t
         acyclic c = order-acyclic (inputs_of w) (node_of m t) xs o (cyclic_up d t small c)
 
-        pub says-absent : b.some ≡ true → Refuses (view m) t 12 (bytes_of b.tag) 0
-        says-absent e = absent sound short acyclic (shown-absent _ _ (least.found e), λ a h n. true≢false (sym (T→true _ h) ∙ (least.least a 0 (absent-shown a n)).1))
+        pub says-absent : (b : Shown) → LeastIs (AbsentShown no_list m found seen (slots m)) b → Refuses (view m) t 12 (bytes_of b.tag) 0
+        says-absent b l = absent sound short acyclic (shown-absent _ _ l.found, λ a h n. true≢false (sym (T→true _ h) ∙ l.least a 0 (absent-shown a n)))
 
-        module _ (none-absent : b.some ≡ false) (c : Best) (lowest : LeastOf (GapShown no_list m found seen (min m.list_count 128)) c) where
+        module _ (none-absent : LeastOf (AbsentShown no_list m found seen (slots m)) None) where
           pub absents_none : (a : Tag) → ¬ Absent (view m) t a
-          absents_none a n = true≢false (sym (least.least a 0 (absent-shown a n)).0 ∙ none-absent)
+          absents_none a n = none-absent a 0 (absent-shown a n)
 
-          pub says-gapped : c.some ≡ true → Refuses (view m) t 13 (bytes_of c.tag) c.index
-          says-gapped e =
-              let (g, f) = shown_gap _ _ (lowest.found e) in
-              gapped sound short acyclic absents_none (g, λ a h n. let (i, s) = gap_shown a n in true≢false (sym (T→true _ h) ∙ (lowest.least a i s).1)) f
+          pub says-gapped : (c : Shown) → LeastIs (GapShown no_list m found seen (min m.list_count 128)) c → Refuses (view m) t 13 (bytes_of c.tag) c.index
+          says-gapped c l =
+              let (g, f) = shown_gap _ _ l.found in
+              gapped sound short acyclic absents_none (g, λ a h n. let (i, s) = gap_shown a n in true≢false (sym (T→true _ h) ∙ l.least a i s)) f
 
-          pub gaps_none : c.some ≡ false → (a : Tag) → ¬ Gapped (view m) t a
-          gaps_none e a n = let (i, s) = gap_shown a n in true≢false (sym (lowest.least a i s).0 ∙ e)
+          pub gaps_none : LeastOf (GapShown no_list m found seen (min m.list_count 128)) None → (a : Tag) → ¬ Gapped (view m) t a
+          gaps_none e a n = let (i, s) = gap_shown a n in e a i s
 
       -- ---- an order, where nothing is absent and nothing is gapped
 
@@ -292,11 +300,11 @@ module _ (m : Record) (pass : passes m ≡ true) (t : Tag) (size : overlong t �
             go (no n) = absurd (present a (q, node-absent m fit a (omega arith)))
 
         -- so an entry of the order is a component's position, and its tag the one held there
-        in_order : (x : ℕ) → x ∈ xs → (x < 64) × (position (name_of m x) 0 (components_of m) ≡ At x)
+        in_order : (x : ℕ) → x ∈ xs → (x < 64) × (position (name_of m x) 0 (components_of m) ≡ Some x)
         in_order x k =
             let (nx, q) = reach_down d t small x (o.only x k) in
             let h : node_of m (name_of m x) < 64 = component-node (name_of m x) q in
-            (subst (λ (z : ℕ). z < 64) nx.1 h, node-component m fit (name_of m x) h ∙ ap At nx.1)
+            (subst (λ (z : ℕ). z < 64) nx.1 h, node-component m fit (name_of m x) h ∙ ap Some nx.1)
 
         entry-held : (x : ℕ) → x ∈ xs → x < length (components_of m)
         entry-held x k = (entry_row m (name_of m x) x (in_order x k).1).within
@@ -318,53 +326,65 @@ module _ (m : Record) (pass : passes m ≡ true) (t : Tag) (size : overlong t �
         form : Compiles (view m) t
         form = record { acyclic = λ c. order-acyclic (inputs_of w) (node_of m t) xs o (cyclic_up d t small c); present = present; assigned = assigned }
 
-        module _ (at : List ℕ) (k : ℕ) (filled : length at ≡ 192) (fits : k ≤ 192) (laid : xs ≡ take k at) (graph : CompiledGraph) (made : Placing at k w graph) where
-          count : k ≤ 64
-          count = omega (arith, ap length laid, length-take-le k at (omega arith), few)
-
+        module _ (graph : Graph) (made : Placing xs w graph) where
           same : positions_of graph ≡ xs
-          same = ap (λ (z : Compiling). take (count_of z) graph.order) made.answer ∙ sym (take-take k 64 graph.order count) ∙ ap (take k) made.order.same ∙ take-take k 64 at count ∙ sym laid
+          same = ap (λ (z : ℕ). take z graph.order) made.count ∙ made.order.same ∙ take_all 64 xs few
 
           entry : (x p : ℕ) → x < 64 → p < 3 → get_or graph.inputs (x * 3 + p) 0 ≡ get_or w (x * 3 + p) 0
           entry x p h hp = sym (get_or-take 192 graph.inputs (x * 3 + p) 0 (omega arith)) ∙ ap (λ (l : List ℕ). get_or l (x * 3 + p) 0) made.inputs.same ∙ get_or-take 192 w (x * 3 + p) 0 (omega arith)
 
-          pub says-ordered : CompilesAs m t graph
+          pub says-ordered : CompilesAs m t (Ok graph)
           says-ordered = record {
-            fitting = λ q. subst (λ (z : Compiling). Compiled (view m) t (ending_of z (bytes_of graph.tag) graph.index) (map (tag_at m) (positions_of graph))) (sym made.answer)
-                (order sound short form (subst (λ (l : List ℕ). Order (view m) t (map (tag_at m) l)) (sym same) (subst (Order (view m) t) (sym (map_same xs (λ x i. i))) (order_up d t small (λ a q. omega (arith, component-node a q)) xs o))));
-            unfit = λ q. absurd (true≢false (sym pass ∙ q));
-            counted = subst (λ (z : Compiling). length (take (count_of z) graph.order) ≡ count_of z) (sym made.answer) (length-take-le k graph.order (omega (arith, made.order.r_length, count)));
-            few = subst (λ (z : Compiling). count_of z ≤ 64) (sym made.answer) count;
+            passing = pass;
+            compiled = order sound short form (subst (λ (l : List ℕ). Order (view m) t (map (tag_at m) l)) (sym same) (subst (Order (view m) t) (sym (map_same xs (λ x i. i))) (order_up d t small (λ a q. omega (arith, component-node a q)) xs o)));
+            counted = ap length same ∙ sym made.count;
+            few = omega (arith, made.count, few);
             held = λ x i. entry-held x (subst (λ (l : List ℕ). x ∈ l) same i);
-            plain = λ j q. (made.tag, made.index);
             wired = λ x p i hp. let j : x ∈ xs = subst (λ (l : List ℕ). x ∈ l) same i in
                 entry x p (in_order x j).0 hp ∙ d.wires x (reach_down d t small x (o.only x j)).0 p hp ∙ ap (λ (z : Tag). settled m (place_want (inputs (view m) z) p)) (sym (entry_tag x j));
           }
 
 -- ---- the same of a form
 
-module _ (m : Record) (longs : length m.lists ≡ 128) (t : Tag) (found w at : List ℕ) (n : ℕ) (whole : Bool) (seen : List ℕ) (f : Formed no_list m t found w at n whole seen) (r : CompiledGraph) where
-  placing : ((a : Tag) → ¬ Absent (view m) t a) → ((a : Tag) → ¬ Gapped (view m) t a) → Placing at n w r → CompilesAs m t r
-  placing present assigned made =
-      says-ordered m f.fits t f.short longs found f.resolved (min m.list_count 128) refl w f.wires f.node f.laid.line f.laid.count seen f.laid.reach
-      (take n at) (f.laid.laid.order refl) present assigned at n f.laid.laid.at_length f.laid.laid.fits refl r made
+module _ (m : Record) (pass : passes m ≡ true) (t : Tag) (size : overlong t ≡ false) (found : List ℕ) (r : Resolved no_list m found) {n : ℕ} (live : n ≡ min m.list_count 128) (w : List ℕ) (g : Wired found n w) where
+  pub form_of : min m.list_count (length m.lists) ≡ min m.list_count 128 → {x : ℕ} → x ≡ node_of m t → x < 192 → (l : LaidOut) (xs nodes : List ℕ) → l.order ≡ Some xs → nodes ≡ xs → (x < 192 → LaysOut w x l.reach l.order l.whole) → {seen : List Bool} → Marks l.reach seen
+      → Formed no_list m t found w nodes l.whole seen
+  form_of longs {x} e h l xs nodes f q laid marked = record {
+    fits = pass;
+    short = size;
+    live = longs;
+    node = subst (λ (z : ℕ). z < 192) e h;
+    resolved = r;
+    wires = subst (λ (z : ℕ). Wired found z w) live g;
+    reach = l.reach;
+    laid = subst (λ (z : ℕ). LaysOut w z l.reach (Some nodes) l.whole) e (subst (λ o. LaysOut w x l.reach o l.whole) (f ∙ ap (λ (k : List ℕ). Some k) (sym q)) (laid h));
+    marked = marked;
+  }
 
-  pub formed_whole : whole ≡ true → Placing at n w r → CompilesAs m t r
+module _ (m : Record) (t : Tag) (found w xs : List ℕ) (whole : Bool) (seen : List Bool) (f : Formed no_list m t found w xs whole seen) where
+  placing : ((a : Tag) → ¬ Absent (view m) t a) → ((a : Tag) → ¬ Gapped (view m) t a) → (g : Graph) → Placing xs w g → CompilesAs m t (Ok g)
+  placing present assigned = says-ordered m f.fits t f.short f.live found f.resolved (min m.list_count 128) refl w f.wires f.node f.reach seen f.laid.reached f.marked xs f.laid.laid present assigned
+
+  pub formed_whole : whole ≡ true → (g : Graph) → Placing xs w g → CompilesAs m t (Ok g)
   formed_whole e = placing
-      (whole_present m f.fits t f.short longs found f.resolved (min m.list_count 128) refl w f.wires f.node f.laid.line f.laid.count seen f.laid.reach (f.laid.test.each e))
-      (whole_assigned m f.fits t f.short longs found f.resolved (min m.list_count 128) refl w f.wires f.node f.laid.line f.laid.count seen f.laid.reach (f.laid.test.each e))
+      (whole_present m f.fits t f.short f.live found f.resolved (min m.list_count 128) refl w f.wires f.node f.reach seen f.laid.reached f.marked (f.laid.test e))
+      (whole_assigned m f.fits t f.short f.live found f.resolved (min m.list_count 128) refl w f.wires f.node f.reach seen f.laid.reached f.marked (f.laid.test e))
 
-  module _ (b : Best) (least : LeastOf (AbsentShown no_list m found seen (slots m)) b) where
-    pub formed_absent : b.some ≡ true → Stopped MissingTag b.tag 0 r → CompilesAs m t r
-    formed_absent e = stops m t MissingTag b.tag 0 r f.fits
-        (says-absent m f.fits t f.short longs found f.resolved (min m.list_count 128) refl w f.wires f.node f.laid.line f.laid.count seen f.laid.reach (take n at) (f.laid.laid.order refl) b least e)
+  module _ {a : Maybe Shown} (least : LeastOf (AbsentShown no_list m found seen (slots m)) a) where
+    pub formed_absent : (b : Shown) → a ≡ Some b → (r : Refusal) → refusal_of r ≡ refused 12 (bytes_of b.tag) 0 → CompilesAs m t (Err r)
+    formed_absent b e = stops m t f.fits
+        (says-absent m f.fits t f.short f.live found f.resolved (min m.list_count 128) refl w f.wires f.node f.reach seen f.laid.reached f.marked xs f.laid.laid b (subst (LeastOf (AbsentShown no_list m found seen (slots m))) e least))
 
-    module _ (present : b.some ≡ false) (c : Best) (lowest : LeastOf (GapShown no_list m found seen (min m.list_count 128)) c) where
-      pub formed_gapped : c.some ≡ true → Stopped MissingInput c.tag c.index r → CompilesAs m t r
-      formed_gapped e = stops m t MissingInput c.tag c.index r f.fits
-          (says-gapped m f.fits t f.short longs found f.resolved (min m.list_count 128) refl w f.wires f.node f.laid.line f.laid.count seen f.laid.reach (take n at) (f.laid.laid.order refl) b least present c lowest e)
+    module _ (present : a ≡ None) where
+      none-absent : LeastOf (AbsentShown no_list m found seen (slots m)) None
+      none-absent = subst (LeastOf (AbsentShown no_list m found seen (slots m))) present least
 
-      pub formed_full : c.some ≡ false → Placing at n w r → CompilesAs m t r
-      formed_full e = placing
-          (absents_none m f.fits t f.short longs found f.resolved (min m.list_count 128) refl w f.wires f.node f.laid.line f.laid.count seen f.laid.reach (take n at) (f.laid.laid.order refl) b least present c lowest)
-          (gaps_none m f.fits t f.short longs found f.resolved (min m.list_count 128) refl w f.wires f.node f.laid.line f.laid.count seen f.laid.reach (take n at) (f.laid.laid.order refl) b least present c lowest e)
+      module _ {g : Maybe Shown} (lowest : LeastOf (GapShown no_list m found seen (min m.list_count 128)) g) where
+        pub formed_gapped : (c : Shown) → g ≡ Some c → (r : Refusal) → refusal_of r ≡ refused 13 (bytes_of c.tag) c.index → CompilesAs m t (Err r)
+        formed_gapped c e = stops m t f.fits
+            (says-gapped m f.fits t f.short f.live found f.resolved (min m.list_count 128) refl w f.wires f.node f.reach seen f.laid.reached f.marked xs f.laid.laid none-absent c (subst (LeastOf (GapShown no_list m found seen (min m.list_count 128))) e lowest))
+
+        pub formed_full : g ≡ None → (o : Graph) → Placing xs w o → CompilesAs m t (Ok o)
+        formed_full e = placing
+            (absents_none m f.fits t f.short f.live found f.resolved (min m.list_count 128) refl w f.wires f.node f.reach seen f.laid.reached f.marked xs f.laid.laid none-absent)
+            (gaps_none m f.fits t f.short f.live found f.resolved (min m.list_count 128) refl w f.wires f.node f.reach seen f.laid.reached f.marked xs f.laid.laid none-absent (subst (LeastOf (GapShown no_list m found seen (min m.list_count 128))) e lowest))

@@ -10,10 +10,9 @@ use mathlib.Core.Option
 use mathlib.Core.Option.{Option}
 use lib.ListN.{length, get_or, set, replicate, length-set, length-replicate, get_or-replicate}
 use lib.Seq.{get_or-set_same, get_or-set_other}
+use Rattle.std.specs.Prelude.{Option as Maybe, Some, None}
 use Rattle.tag.specs.Tags.{Tag}
 use Rattle.model.specs.declared.implicit_model.Model.{Model as Record}
-use Rattle.held.specs.declared.find.Found.{Found}
-use Rattle.held.specs.declared.find.Found.TheVariants.{At, Nothing}
 use Rattle.model.specs.Model.{Place, inputs}
 use Rattle.model.specs.View.{list_of, lists_of, view, passes}
 use Rattle.held.specs.Search.{position}
@@ -93,7 +92,7 @@ module _ (found w : List ℕ) (n l : ℕ) (o : Owned found n) (g : Wired found l
 
 -- ---- what the wires say of the record
 
-module _ (m : Record) (pass : passes m ≡ true) (long : length m.lists ≡ 128) (found : List ℕ) (r : Resolved no_list m found) where
+module _ (m : Record) (pass : passes m ≡ true) (long : min m.list_count (length m.lists) ≡ min m.list_count 128) (found : List ℕ) (r : Resolved no_list m found) where
   s : Standing m
   s = standing m pass
 
@@ -116,13 +115,13 @@ module _ (m : Record) (pass : passes m ≡ true) (long : length m.lists ≡ 128)
   pub drawn : (n : ℕ) → n ≡ count → (w : List ℕ) → Wired found n w → Drawn m w
   drawn n e w g = record { standing = s; short = inputs_short m pass; wires = λ x nx p hp. go x nx p hp (position (name_of m x) 0 (lists_of m)) refl }
     where
-      go : (x : ℕ) → Node m x → (p : ℕ) → p < 3 → (f : Found) → position (name_of m x) 0 (lists_of m) ≡ f → get_or w (x * 3 + p) 0 ≡ settled m (place_want (inputs (view m) (name_of m x)) p)
-      go x nx p hp (At l) q =
+      go : (x : ℕ) → Node m x → (p : ℕ) → p < 3 → (f : Maybe ℕ) → position (name_of m x) 0 (lists_of m) ≡ f → get_or w (x * 3 + p) 0 ≡ settled m (place_want (inputs (view m) (name_of m x)) p)
+      go x nx p hp (Some l) q =
           let a = list_row m (name_of m x) l q in
           let h : l < count = omega (arith, a.below, s.few_lists) in
           let own : get_or found (l * 4) 0 ≡ x = owner m pass long found r l h ∙ ap (node_of m) a.tag ∙ nx.1 in
           ap (λ (z : ℕ). get_or w (z * 3 + p) 0) (sym own) ∙ g.own l p (omega arith) hp ∙ place m pass long found r l p h hp ∙ ap (λ (z : List Place). settled m (place_want z p)) (sym (inputs_at m pass long found r (name_of m x) l q))
-      go x nx p hp Nothing q =
+      go x nx p hp None q =
           g.free x p nx.0 hp none_owns
           ∙ sym (ap (settled m) (ap (λ (z : List Place). place_want z p) (ap (λ (o : Option (List Place)). Option.get_or o []) (unlisted m (name_of m x) q)) ∙ want_past [] p (omega arith)))
         where
@@ -130,7 +129,7 @@ module _ (m : Record) (pass : passes m ≡ true) (long : length m.lists ≡ 128)
           none_owns l h k =
               let j : l < count = omega arith in
               let t : tag_of m pass long found r l ≡ name_of m x = sym (name-node m s (tag_of m pass long found r l) (listed-node m s (tag_of m pass long found r l) l (listed_at m pass long found r l j))) ∙ ap (name_of m) (sym (owner m pass long found r l j) ∙ k) in
-              let f : position (name_of m x) 0 (lists_of m) ≡ At l = ap (λ (z : Tag). position z 0 (lists_of m)) (sym t) ∙ listed_at m pass long found r l j in
+              let f : position (name_of m x) 0 (lists_of m) ≡ Some l = ap (λ (z : Tag). position z 0 (lists_of m)) (sym t) ∙ listed_at m pass long found r l j in
               let z : ◌≡◌ {A = ℕ} 0 1 = cc in
               let y : ⊥ = omega arith in
               y

@@ -9,11 +9,10 @@ use mathlib.Core.Option.{Option, none, some}
 use lib.Dec.{T, ltb}
 use lib.ListN.{length, get_or}
 use borrow.Author.Tests.{lt-ltb, le-ltb}
+use Rattle.std.specs.Prelude.{Option as Maybe, Some, None}
 use Rattle.tag.specs.Tags.{Tag}
 use Rattle.tag.specs.View.{bytes_of}
 use Rattle.model.specs.declared.implicit_model.Model.{Model as Record}
-use Rattle.held.specs.declared.find.Found.{Found}
-use Rattle.held.specs.declared.find.Found.TheVariants.{At, Nothing}
 use Rattle.model.specs.Table.{Table, find, distinct}
 use Rattle.model.specs.Model.{Place, component, list, inputs}
 use Rattle.model.specs.View.{component_of, list_of, components_of, lists_of, view}
@@ -28,15 +27,15 @@ use Rattle.resolving.specs.Slots.{node_at, node_of}
 
 -- ---- a search of a table in which no tag stands twice finds the row that has the tag
 
-found_is : (f : Found) → (f ≡ Nothing → ⊥) → (i : ℕ) × (f ≡ At i)
-found_is (At i) n = (i, refl)
-found_is Nothing n = absurd (n refl)
+found_is : (f : Maybe ℕ) → (f ≡ None → ⊥) → (i : ℕ) × (f ≡ Some i)
+found_is (Some i) n = (i, refl)
+found_is None n = absurd (n refl)
 
-pub position_at : {A : Type 0} (d : Tag × A) (r : Table A) (i : ℕ) (t : Tag) → T (distinct r) → i < length r → (get_or r i d).0 ≡ t → position t 0 r ≡ At i
+pub position_at : {A : Type 0} (d : Tag × A) (r : Table A) (i : ℕ) (t : Tag) → T (distinct r) → i < length r → (get_or r i d).0 ≡ t → position t 0 r ≡ Some i
 position_at {A} d r i t once h e =
     let f = found_is (position t 0 r) (λ q. none_some (sym (held-false t r (position-free t 0 r q)) ∙ here)) in
     let w = row d r f.1 in
-    f.1 ∙ ap At (rows_apart d r f.0 i once w.within h (w.tag ∙ sym e))
+    f.1 ∙ ap Some (rows_apart d r f.0 i once w.within h (w.tag ∙ sym e))
   where
     here : find t r ≡ some (get_or r i d).1
     here = subst (λ (a : Tag). find a r ≡ some (get_or r i d).1) e (find_at d r i once h)
@@ -46,44 +45,44 @@ abbrev pub name_of : Record → ℕ → Tag
 name_of m x = cond (ltb x 64) (bytes_of (get_or m.components x no_entry).tag) (bytes_of (get_or m.lists (x - 64) no_list).tag)
 
 module _ (m : Record) where
-  pub node_hit : (a : Tag) (i : ℕ) → position a 0 (components_of m) ≡ At i → i ≡ node_of m a
+  pub node_hit : (a : Tag) (i : ℕ) → position a 0 (components_of m) ≡ Some i → i ≡ node_of m a
   unfolding node_of
-  node_hit a i e = sym (ap (λ (z : Found). node_at z (position a 0 (lists_of m))) e)
+  node_hit a i e = sym (ap (λ (z : Maybe ℕ). node_at z (position a 0 (lists_of m))) e)
 
-  pub node-list : (a : Tag) (l : ℕ) → position a 0 (components_of m) ≡ Nothing → position a 0 (lists_of m) ≡ At l → 64 + l ≡ node_of m a
+  pub node-list : (a : Tag) (l : ℕ) → position a 0 (components_of m) ≡ None → position a 0 (lists_of m) ≡ Some l → 64 + l ≡ node_of m a
   unfolding node_of
   node-list a l e q = sym (ap₂ node_at e q)
 
-  pub node_neither : (a : Tag) → position a 0 (components_of m) ≡ Nothing → position a 0 (lists_of m) ≡ Nothing → 192 ≡ node_of m a
+  pub node_neither : (a : Tag) → position a 0 (components_of m) ≡ None → position a 0 (lists_of m) ≡ None → 192 ≡ node_of m a
   unfolding node_of
   node_neither a e q = sym (ap₂ node_at e q)
 
   -- where a tag stands, and which node that makes it
   pub data Seat (a : Tag) : Type 0 where
-    component_at : (i : ℕ) → position a 0 (components_of m) ≡ At i → node_of m a ≡ i → Seat a
-    list_at : (l : ℕ) → position a 0 (components_of m) ≡ Nothing → position a 0 (lists_of m) ≡ At l → node_of m a ≡ 64 + l → Seat a
-    nowhere : position a 0 (components_of m) ≡ Nothing → position a 0 (lists_of m) ≡ Nothing → node_of m a ≡ 192 → Seat a
+    component_at : (i : ℕ) → position a 0 (components_of m) ≡ Some i → node_of m a ≡ i → Seat a
+    list_at : (l : ℕ) → position a 0 (components_of m) ≡ None → position a 0 (lists_of m) ≡ Some l → node_of m a ≡ 64 + l → Seat a
+    nowhere : position a 0 (components_of m) ≡ None → position a 0 (lists_of m) ≡ None → node_of m a ≡ 192 → Seat a
 
   pub seat : (a : Tag) → Seat a
   seat a = go (position a 0 (components_of m)) refl (position a 0 (lists_of m)) refl
     where
-      go : (f : Found) → position a 0 (components_of m) ≡ f → (g : Found) → position a 0 (lists_of m) ≡ g → Seat a
-      go (At i) e g q = component_at i e (sym (node_hit a i e))
-      go Nothing e (At l) q = list_at l e q (sym (node-list a l e q))
-      go Nothing e Nothing q = nowhere e q (sym (node_neither a e q))
+      go : (f : Maybe ℕ) → position a 0 (components_of m) ≡ f → (g : Maybe ℕ) → position a 0 (lists_of m) ≡ g → Seat a
+      go (Some i) e g q = component_at i e (sym (node_hit a i e))
+      go None e (Some l) q = list_at l e q (sym (node-list a l e q))
+      go None e None q = nowhere e q (sym (node_neither a e q))
 
-  pub missing : (a : Tag) → position a 0 (components_of m) ≡ Nothing → component (view m) a ≡ none
+  pub missing : (a : Tag) → position a 0 (components_of m) ≡ None → component (view m) a ≡ none
   unfolding view
   missing a e = held-false a (components_of m) (position-free a 0 (components_of m) e)
 
-  pub unlisted : (a : Tag) → position a 0 (lists_of m) ≡ Nothing → list (view m) a ≡ none
+  pub unlisted : (a : Tag) → position a 0 (lists_of m) ≡ None → list (view m) a ≡ none
   unfolding view
   unlisted a e = held-false a (lists_of m) (position-free a 0 (lists_of m) e)
 
-  pub entry_row : (a : Tag) (i : ℕ) → position a 0 (components_of m) ≡ At i → RowAt component_of m.components m.component_count i a no_entry
+  pub entry_row : (a : Tag) (i : ℕ) → position a 0 (components_of m) ≡ Some i → RowAt component_of m.components m.component_count i a no_entry
   entry_row a i e = row_at component_of m.components m.component_count i no_entry e
 
-  pub list_row : (a : Tag) (l : ℕ) → position a 0 (lists_of m) ≡ At l → RowAt list_of m.lists m.list_count l a no_list
+  pub list_row : (a : Tag) (l : ℕ) → position a 0 (lists_of m) ≡ Some l → RowAt list_of m.lists m.list_count l a no_list
   list_row a l e = row_at list_of m.lists m.list_count l no_list e
 
   module _ (s : Standing m) where
@@ -105,11 +104,11 @@ module _ (m : Record) where
         go (nowhere n e q) = ap (λ (o : Option (List Place)). Option.get_or o []) (unlisted a e)
 
     -- a component's node is its position
-    pub node-component : (a : Tag) → node_of m a < 64 → position a 0 (components_of m) ≡ At (node_of m a)
+    pub node-component : (a : Tag) → node_of m a < 64 → position a 0 (components_of m) ≡ Some (node_of m a)
     node-component a h = go (seat a)
       where
-        go : Seat a → position a 0 (components_of m) ≡ At (node_of m a)
-        go (component_at i e q) = e ∙ ap At (sym q)
+        go : Seat a → position a 0 (components_of m) ≡ Some (node_of m a)
+        go (component_at i e q) = e ∙ ap Some (sym q)
         go (list_at l n e q) = absurd (let z : ⊥ = omega (arith, q) in z)
         go (nowhere n e q) = absurd (let z : ⊥ = omega (arith, q) in z)
 
@@ -139,7 +138,7 @@ module _ (m : Record) where
         go (nowhere n e q) = omega (arith, q)
 
     -- a tag that has a list has a node
-    pub listed-node : (a : Tag) (l : ℕ) → position a 0 (lists_of m) ≡ At l → node_of m a < 192
+    pub listed-node : (a : Tag) (l : ℕ) → position a 0 (lists_of m) ≡ Some l → node_of m a < 192
     listed-node a l e = go (seat a)
       where
         go : Seat a → node_of m a < 192

@@ -1,21 +1,20 @@
 -- What stands in a list, place by place. Assumes nothing.
-use Prim.Native.Nat.{ℕ, zero, suc, ◌-◌, ◌≤◌, ◌<◌, min}
+use Prim.Native.Nat.{ℕ, zero, suc, ◌-◌, ◌≤◌, ◌<◌}
 use native.Mathlib.Omega.{arith}
 use mathlib.Core.Path.{◌≡◌, refl, sym, ap, ◌∙◌}
 use mathlib.Core.Logic.{◌≢◌}
-use mathlib.Core.Bool.{Bool, true, false, cond}
-use mathlib.Core.List.{List, [], ◌∷◌, Memᴰ}
+use mathlib.Core.List.{List, [], ◌∷◌, map, Memᴰ}
 use mathlib.Core.Option.{none, some}
-use lib.ListN.{length, get_or}
+use lib.ListN.{take, length, get_or, length-map, get_or-map}
+use Rattle.std.specs.Prelude.{Some, None}
 use Rattle.tag.specs.Tags.{Tag}
 use Rattle.tag.specs.View.{bytes_of}
 use Rattle.tag.specs.declared.Tag.{Tag as Label}
 use Rattle.model.specs.declared.implicit_model.InputList.{InputList}
 use Rattle.model.specs.Model.{Place}
-use Rattle.model.specs.View.{place_of, rows}
-use Rattle.held.proofs.Laws.Rows.{no_place, rows-length, rows_at}
+use Rattle.model.specs.View.{PlaceRecord, place_of, rows}
 use Rattle.model.proofs.Laws.Valid.{some_some, none_some}
-use Rattle.resolving.specs.Slots.{Want, look, fixed, place_want, want_of, slot_of}
+use Rattle.resolving.specs.Slots.{Want, look, fixed, place_want, want_of}
 
 -- a place that names a tag is one of the list's
 pub want_names : (l : List Place) (p : ℕ) {a : Tag} → place_want l p ≡ look a → Memᴰ (some a) l
@@ -80,28 +79,26 @@ want_past (some a ∷ l) (suc p) h = want_past l p (omega arith)
 
 -- ---- the slots of a list's record
 
-module _ (l : InputList) (long : length l.places ≡ 3) (q : ℕ) where
-  pub slot_own : q ≡ 0 → (t : Label) → t ≡ l.tag → slot_of (record { kind = 0; tag = t }) ≡ want_of l q
-  slot_own e t f = rw (e, f)
+module _ (l : InputList) (q : ℕ) where
+  pub slot_own : q ≡ 0 → look (bytes_of l.tag) ≡ want_of l q
+  slot_own e = rw e
 
-  module _ (n : ℕ) (e : n ≡ min l.count 3) (some-place : q ≢ 0) where
-    next : q ≡ suc (q - 1)
-    next = omega arith
+  module _ (some-place : q ≢ 0) {xs : List PlaceRecord} (live : xs ≡ take l.count l.places) where
+    next : want_of l q ≡ place_want (map place_of xs) (q - 1)
+    unfolding rows
+    next = let e : q ≡ suc (q - 1) = omega arith in ap (want_of l) e ∙ ap (λ (z : List PlaceRecord). place_want (map place_of z) (q - 1)) (sym live)
 
-    count : length (rows place_of l.count l.places) ≡ n
-    count = rows-length place_of l.places l.count ∙ ap (min l.count) long ∙ sym e
+    pub slot-past : length xs ≤ q - 1 → fixed 194 ≡ want_of l q
+    slot-past h = sym (next ∙ want_past (map place_of xs) (q - 1) (omega (arith, length-map xs place_of)))
 
-    pub slot-past : n ≤ q - 1 → (t : Label) → slot_of (record { kind = 194; tag = t }) ≡ want_of l q
-    slot-past h t = sym (ap (want_of l) next ∙ want_past (rows place_of l.count l.places) (q - 1) (omega (arith, count)))
-
-    here : q - 1 < n → want_of l q ≡ placed (place_of (get_or l.places (q - 1) no_place))
+    here : q - 1 < length xs → want_of l q ≡ placed (place_of (get_or xs (q - 1) None))
     unfolding place_of
-    here h = ap (want_of l) next ∙ want_at (rows place_of l.count l.places) (q - 1) (omega (arith, count)) ∙ ap placed (rows_at place_of l.places l.count (q - 1) no_place (omega (arith, count)))
+    here h = next ∙ want_at (map place_of xs) (q - 1) (omega (arith, length-map xs place_of)) ∙ ap placed (get_or-map place_of xs (q - 1) None)
 
-    pub slot-named : q - 1 < n → (get_or l.places (q - 1) no_place).assigned ≡ true → slot_of (record { kind = 0; tag = (get_or l.places (q - 1) no_place).tag }) ≡ want_of l q
+    pub slot-named : q - 1 < length xs → (t : Label) → Some t ≡ get_or xs (q - 1) None → look (bytes_of t) ≡ want_of l q
     unfolding place_of
-    slot-named h f = sym (here h ∙ ap (λ (b : Bool). placed (cond b (some (bytes_of (get_or l.places (q - 1) no_place).tag)) none)) f)
+    slot-named h t e = sym (here h ∙ ap (λ (x : PlaceRecord). placed (place_of x)) (sym e))
 
-    pub slot_gap : q - 1 < n → (get_or l.places (q - 1) no_place).assigned ≡ false → slot_of (record { kind = 193; tag = (get_or l.places (q - 1) no_place).tag }) ≡ want_of l q
+    pub slot-gap : q - 1 < length xs → None ≡ get_or xs (q - 1) None → fixed 193 ≡ want_of l q
     unfolding place_of
-    slot_gap h f = sym (here h ∙ ap (λ (b : Bool). placed (cond b (some (bytes_of (get_or l.places (q - 1) no_place).tag)) none)) f)
+    slot-gap h e = sym (here h ∙ ap (λ (x : PlaceRecord). placed (place_of x)) (sym e))

@@ -1,81 +1,42 @@
 -- The numbers that the slots of the lists come to, and what they say of the record. Assumes nothing.
-use Prim.Native.Nat.{ℕ, zero, suc, ◌+◌, ◌*◌, ◌/◌, ◌%◌, ◌≤◌, ◌<◌, min}
+use Prim.Native.Nat.{ℕ, suc, ◌+◌, ◌*◌, ◌/◌, ◌%◌, ◌≤◌, ◌<◌, min}
 use native.Mathlib.Omega.{arith}
 use native.Mathlib.Decide.{ℕ_discrete}
 use mathlib.Core.Path.{◌≡◌, refl, sym, ap, ap₂, subst, ◌∙◌}
-use mathlib.Core.Bool.{Bool, true, false, cond}
-use mathlib.Core.List.{List, []}
+use mathlib.Core.Bool.{true}
+use mathlib.Core.List.{List, [], map}
 use mathlib.Core.Option
 use mathlib.Core.Option.{Option, none, some}
-use lib.Dec.{ltb, eqb}
-use lib.ListN.{length, get_or, set, replicate, length-set, length-replicate}
+use lib.ListN.{take, length, get_or, set, replicate, length-set, length-take, length-replicate, length-map, get_or-map}
 use lib.Seq.{get_or-set_same, get_or-set_other}
-use borrow.Author.Tests.{ltb-true, leb-true}
+use borrow.Author.Tests.{leb-true}
 use Rattle.tag.specs.Tags.{Tag, is}
 use Rattle.tag.specs.View.{bytes_of}
-use Rattle.tag.specs.declared.Tag.{Tag as Label}
+use Rattle.std.specs.Prelude.{Some}
 use Rattle.tag.proofs.Laws.Is.{is_true}
-use Rattle.model.specs.declared.implicit_model.InputList.{InputList}
+use Rattle.model.specs.declared.implicit_model.ComponentEntry.{ComponentEntry}
 use Rattle.model.specs.declared.implicit_model.Model.{Model as Record}
-use Rattle.held.specs.declared.find.Found.TheVariants.{At}
 use Rattle.model.specs.Model.{Place, list, inputs}
 use Rattle.model.specs.View.{place_of, rows, component_of, list_of, components_of, lists_of, view, passes}
 use Rattle.held.specs.Search.{position}
 use Rattle.model.proofs.Laws.Bool.{T→true}
 use Rattle.model.proofs.Laws.Places.{good_three}
-use Rattle.held.proofs.Laws.Rows.{no_entry, no_list, rows-length, rows_at}
+use Rattle.held.proofs.Laws.Rows.{no_list, rows-length, rows_at}
 use Rattle.held.proofs.Laws.Standing.{Standing, standing, passes-valid}
 use Rattle.model.proofs.Laws.Valid.{good}
-use Rattle.resolving.specs.declared.slots.Slot.{Slot}
-use Rattle.resolving.specs.Slots.{look, fixed, place_want, want_of, slot_of, node_of, settled, settle_of, slots, Resolved}
+use Rattle.resolving.specs.Slots.{place_want, want_of, node_of, NodeOf, settled, slots, Resolved}
 use Rattle.resolving.proofs.Laws.Node.{position_at, node_hit, listed-node, list_row}
-use Rattle.resolving.proofs.Laws.Places.{want_fixed_le}
 
--- ---- one slot
+-- ---- a guess
 
-want_le : (l : InputList) (q : ℕ) {k : ℕ} → want_of l q ≡ fixed k → k ≤ 194
-want_le l zero e = absurd (let z : ◌≡◌ {A = ℕ} 0 1 = cc in let w : ⊥ = omega arith in w)
-want_le l (suc p) e = want_fixed_le (rows place_of l.count l.places) p e
-
-module _ (m : Record) (s : Standing m) (long : length m.components ≡ 64) where
-  -- a live row that has the tag is its node
-  guess_right : (c held : ℕ) → held ≡ min m.component_count 64 → c < held → (a : Tag) → bytes_of (get_or m.components c no_entry).tag ≡ a → node_of m a ≡ c
-  guess_right c held e h a q =
-      let n = rows-length component_of m.components m.component_count in
-      let lt : c < length (components_of m) = omega (arith, n) in
-      let r = rows_at component_of m.components m.component_count c no_entry lt in
-      sym (node_hit m a c (position_at (component_of no_entry) (components_of m) c a s.once lt (ap (λ (z : Tag × _). z.0) r ∙ q)))
-
-  -- the same of a tag by itself
-  pub node_fast : (t : Label) (c held : ℕ) → held ≡ min m.component_count 64 → (v : ℕ) → v ≡ settle_of (record { kind = 0; tag = t }) (get_or m.components c no_entry).tag c held → v < 195 → v ≡ node_of m (bytes_of t)
-  node_fast t c held e v f h = f ∙ go (ltb c held) refl (is (bytes_of (get_or m.components c no_entry).tag) (bytes_of t)) refl (subst (λ (z : ℕ). z < 195) f h)
-    where
-      go : (y : Bool) → ltb c held ≡ y → (z : Bool) → is (bytes_of (get_or m.components c no_entry).tag) (bytes_of t) ≡ z → cond y (cond z c 195) 195 < 195 → cond y (cond z c 195) 195 ≡ node_of m (bytes_of t)
-      go true ey true ez lt = sym (guess_right c held e (ltb-true _ _ ey) (bytes_of t) (is_true _ _ ez))
-      go true ey false ez lt = absurd (let w : ⊥ = omega arith in w)
-      go false ey z ez lt = absurd (let w : ⊥ = omega arith in w)
-
-  module _ (l : InputList) (q : ℕ) (slot : Slot) (right : slot_of slot ≡ want_of l q) (c held : ℕ) (e : held ≡ min m.component_count 64) where
-    abbrev U : Label
-    U = (get_or m.components c no_entry).tag
-
-    pub settle_fast : (v : ℕ) → v ≡ settle_of slot U c held → v < 195 → v ≡ settled m (want_of l q)
-    settle_fast v f h = f ∙ go (eqb slot.kind 0) refl (ltb c held) refl (is (bytes_of U) (bytes_of slot.tag)) refl (subst (λ (z : ℕ). z < 195) f h) ∙ ap (settled m) right
-      where
-        go : (x : Bool) → eqb slot.kind 0 ≡ x → (y : Bool) → ltb c held ≡ y → (z : Bool) → is (bytes_of U) (bytes_of slot.tag) ≡ z
-            → cond x (cond y (cond z c 195) 195) slot.kind < 195 → cond x (cond y (cond z c 195) 195) slot.kind ≡ settled m (cond x (look (bytes_of slot.tag)) (fixed slot.kind))
-        go true ex true ey true ez lt = sym (guess_right c held e (ltb-true _ _ ey) (bytes_of slot.tag) (is_true _ _ ez))
-        go true ex true ey false ez lt = absurd (let w : ⊥ = omega arith in w)
-        go true ex false ey z ez lt = absurd (let w : ⊥ = omega arith in w)
-        go false ex y ey z ez lt = refl
-
-    pub settle_slow : (v : ℕ) → v ≡ settle_of slot U c held → 195 ≤ v → (r : ℕ) → r ≡ node_of m (bytes_of slot.tag) → r ≡ settled m (want_of l q)
-    settle_slow v f h r g = g ∙ go (eqb slot.kind 0) refl right (subst (λ (z : ℕ). 195 ≤ z) f h) ∙ ap (settled m) right
-      where
-        go : (x : Bool) → eqb slot.kind 0 ≡ x → cond x (look (bytes_of slot.tag)) (fixed slot.kind) ≡ want_of l q
-            → 195 ≤ cond x (cond (ltb c held) (cond (is (bytes_of U) (bytes_of slot.tag)) c 195) 195) slot.kind → node_of m (bytes_of slot.tag) ≡ settled m (cond x (look (bytes_of slot.tag)) (fixed slot.kind))
-        go true ex k le = refl
-        go false ex k le = absurd (let w : ⊥ = omega (arith, want_le l q (sym k)) in w)
+-- a live row that has the tag is its node
+pub guess_right : (m : Record) → Standing m → {xs : List ComponentEntry} → xs ≡ take m.component_count m.components → (c : ℕ) → c < length xs → (d : ComponentEntry) (a : Tag) → is (bytes_of (get_or xs c d).tag) a ≡ true → NodeOf m a (Some c)
+unfolding rows
+guess_right m s {xs} e c h d a q =
+    let long : length (components_of m) ≡ length xs = length-map (take m.component_count m.components) component_of ∙ ap length (sym e) in
+    let few : length (components_of m) ≤ 64 = omega (arith, rows-length component_of m.components m.component_count, s.few) in
+    let tag : (get_or (components_of m) c (component_of d)).0 ≡ a = ap (λ (z : List ComponentEntry). (get_or (map component_of z) c (component_of d)).0) (sym e) ∙ ap (λ (z : Tag × _). z.0) (get_or-map component_of xs c d) ∙ is_true _ _ q in
+    (omega (arith, long, few), node_hit m a c (position_at (component_of d) (components_of m) c a s.once (omega (arith, long)) tag))
 
 -- ---- all slots, one after the other
 
@@ -107,7 +68,11 @@ inputs_short m pass a = go (list (view m) a) refl
     go none e = omega arith
     go (some l) e = leb-true (length l) 3 (T→true _ (good_three a l ((good (view m) (passes-valid m pass)).places a l e)))
 
-module _ (m : Record) (pass : passes m ≡ true) (long : length m.lists ≡ 128) (found : List ℕ) (r : Resolved no_list m found) where
+-- the live rows stand in the table
+pub in_table : {A : Type 0} (table : List A) {xs : List A} (n : ℕ) → xs ≡ take n table → length xs ≡ min n 128 → min n (length table) ≡ min n 128
+in_table table n e f = sym (length-take n table) ∙ sym (ap length e) ∙ f
+
+module _ (m : Record) (pass : passes m ≡ true) (long : min m.list_count (length m.lists) ≡ min m.list_count 128) (found : List ℕ) (r : Resolved no_list m found) where
   s : Standing m
   s = standing m pass
 
@@ -135,14 +100,14 @@ module _ (m : Record) (pass : passes m ≡ true) (long : length m.lists ≡ 128)
   pub row_tag : (l : ℕ) → l < count → (get_or (lists_of m) l (list_of no_list)).0 ≡ tag_of l
   row_tag l h = ap (λ (z : Tag × _). z.0) (rows_at list_of m.lists m.list_count l no_list (live l h))
 
-  pub listed_at : (l : ℕ) → l < count → position (tag_of l) 0 (lists_of m) ≡ At l
+  pub listed_at : (l : ℕ) → l < count → position (tag_of l) 0 (lists_of m) ≡ Some l
   listed_at l h = position_at (list_of no_list) (lists_of m) l (tag_of l) s.once-lists (live l h) (row_tag l h)
 
   -- a list has a node
   pub small : (l : ℕ) → l < count → get_or found (l * 4) 0 < 192
   small l h = subst (λ (z : ℕ). z < 192) (sym (owner l h)) (listed-node m s (tag_of l) l (listed_at l h))
 
-  pub inputs_at : (a : Tag) (l : ℕ) → position a 0 (lists_of m) ≡ At l → inputs (view m) a ≡ rows place_of (get_or m.lists l no_list).count (get_or m.lists l no_list).places
+  pub inputs_at : (a : Tag) (l : ℕ) → position a 0 (lists_of m) ≡ Some l → inputs (view m) a ≡ rows place_of (get_or m.lists l no_list).count (get_or m.lists l no_list).places
   unfolding view
   inputs_at a l e = ap (λ (o : Option (List Place)). Option.get_or o []) (list_row m a l e).entry
 

@@ -1,7 +1,6 @@
 -- One row of a list of edits. Assumes nothing.
 use Prim.Native.Nat.{ℕ, zero, suc, ◌+◌, ◌-◌, ◌≤◌, ◌<◌}
 use mathlib.Core.Path.{◌≡◌, refl, sym, ◌∙◌, ap, ap₂, subst}
-use mathlib.Core.Logic.{◌⊎◌, inl, inr}
 use mathlib.Core.Bool.{Bool, true, false, cond}
 use mathlib.Core.List.{List}
 use mathlib.Core.Option.{Option, none, some, map, none-ne-some, some-injective}
@@ -105,10 +104,13 @@ module _ (s : List ℕ) (at : ℕ) where
     runs_operation w q h = runs w (ap (map operation) q) h (λ a t. refl)
 
     -- no component or data in the row
-    pub no_component : {k : ℕ} → word s at ≡ k → (k ≡ 1) ⊎ ((k ≡ 3) ⊎ (k ≡ 4)) → component_at s at ≡ none → Runs s at m r
-    no_component w (inl z) q = runs_none (w ∙ z) (ap (map operation) q)
-    no_component w (inr (inl z)) q = runs_none (w ∙ z) (ap (map (add_function (text s (at + 64)))) q)
-    no_component w (inr (inr z)) q = runs_none (w ∙ z) (ap (map (add_component (text s (at + 64)))) q)
+    pub no_component : (k : ℕ) → word s at ≡ k → 1 ≤ k → k ≤ 4 → (k ≡ 2 → ⊥) → component_at s at ≡ none → Runs s at m r
+    no_component zero w a b n q = absurd (let y : ⊥ = omega arith in y)
+    no_component (suc zero) w a b n q = runs_none w (ap (map operation) q)
+    no_component (suc (suc zero)) w a b n q = absurd (n refl)
+    no_component (suc (suc (suc zero))) w a b n q = runs_none w (ap (map (add_function (text s (at + 64)))) q)
+    no_component (suc (suc (suc (suc zero)))) w a b n q = runs_none w (ap (map (add_component (text s (at + 64)))) q)
+    no_component (suc (suc (suc (suc (suc k))))) w a b n q = absurd (let y : ⊥ = omega arith in y)
 
     pub no-data : word s at ≡ 9 → data_at s at ≡ none → Runs s at m r
     no-data w q = runs_none w (ap (map (set_parameter (text s (at + 64)) (text s (at + 112)))) q)
@@ -165,13 +167,6 @@ module _ (s : List ℕ) (at : ℕ) {m : Record} {r : Edited} {c : Component} {t 
       (ap₂ (λ (u : Tag) (o : Option (List Tag)). add_operation u c o) e
       (given_some k a b d z ∙ ap₂ (λ (u v : Tag). given k u v d) x y ∙ ap₂ (λ (j : ℕ) (u : Tag). given j (text s (at + 112)) (text s (at + 160)) u) n w))
       h
-
--- ---- numbers
-
-pub is_four : {k : ℕ} → (k ≡ 1) ⊎ ((k ≡ 3) ⊎ (k ≡ 4)) → (k ≡ 1 → ⊥) → (k ≡ 3 → ⊥) → k ≡ 4
-is_four (inl z) a b = absurd (a z)
-is_four (inr (inl z)) a b = absurd (b z)
-is_four (inr (inr z)) a b = z
 
 -- ---- where no whole row stands
 

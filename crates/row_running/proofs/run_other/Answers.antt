@@ -1,21 +1,15 @@
 -- `row_running::run_other` meets its contract. Assumes nothing.
 use native.Mathlib.Omega.{arith}
-use Prim.Native.Nat.{◌≤◌}
 use mathlib.Core.Path.{sym, ap, ◌∙◌}
-use mathlib.Core.Logic.{inl, inr}
 use Rattle.component_layout.specs.Components.{number}
-use Rattle.component_layout.proofs.Laws.{missed}
 use Rattle.row_running.proofs.Laws.Row.{runs_constant, runs_input, runs_unwire, runs_remove, no_edit}
+use Rattle.row_running.proofs.run_other.Goals.{in-1-1, in_default+else-which-lt1+then-which-lt5}
 use Rattle.row_running.proofs.run_other.Goals as goal
 
 pub run_adding-requires : goal.run_adding-requires
-run_adding-requires c = let p = c.requires in (p.0, (p.1.0, inl c.in-1.is))
-
-pub run_adding-requires-in-3 : goal.run_adding-requires-in-3
-run_adding-requires-in-3 c = let p = c.requires in (p.0, (p.1.0, inr (inl c.in-3.is)))
-
-pub run_adding-requires-in-4 : goal.run_adding-requires-in-4
-run_adding-requires-in-4 c = let p = c.requires in (p.0, (p.1.0, inr (inr c.in-4.is)))
+run_adding-requires c =
+    let p = c.requires in
+    (p.0, (p.1.0, (elim c.in-1-1.branch [ in-1-1 w ↦ (omega arith, (omega arith, λ z. omega arith)) | in_default+else-which-lt1+then-which-lt5 w ↦ (omega arith, (omega arith, λ z. omega arith)) ])))
 
 pub run_setting-requires : goal.run_setting-requires
 run_setting-requires c = let p = c.requires in (p.0, sym p.1.0 ∙ c.in-9.is)
@@ -26,12 +20,6 @@ returns-in-1 c = c.run_adding.ensures
 pub returns-in-2 : goal.returns-in-2
 returns-in-2 c =
     runs_constant _ _ c.read_text-tag.ensures (sym c.requires.1.0 ∙ c.in-2.is) (c.float_of.ensures ∙ ap number c.read_word.ensures) c.add_constant.ensures
-
-pub returns-in-3 : goal.returns-in-3
-returns-in-3 c = c.run_adding-in-3.ensures
-
-pub returns-in-4 : goal.returns-in-4
-returns-in-4 c = c.run_adding-in-4.ensures
 
 pub returns-in-5 : goal.returns-in-5
 returns-in-5 c =
@@ -49,4 +37,4 @@ returns-in-9 c = c.run_setting.ensures
 
 pub returns-in_default : goal.returns-in_default
 returns-in_default c =
-    no_edit _ _ c.args.which (sym c.requires.1.0) (λ h. let below : 8 ≤ c.args.which = missed 1 7 c.args.which h c.in_default.in_default-own.rest.0 in omega (arith, c.requires.1.1, c.in_default.in_default-own.rest.1))
+    no_edit _ _ c.args.which (sym c.requires.1.0) (λ h. omega (arith, c.requires.1.1))

@@ -23,10 +23,10 @@ pub returns-then-which-eq8 : goal.returns-then-which-eq8
 returns-then-which-eq8 c =
     record { stepped = λ h. c.run_rename.ensures; unchanged = λ h. absurd (stands _ _ (sym c.holds_row.ensures ∙ c.if-not-holds_row.false) h) }
 
-pub run_other-r-requires : goal.run_other-r-requires
-run_other-r-requires c =
+pub run_other-after-requires : goal.run_other-after-requires
+run_other-after-requires c =
     (leb-true _ _ (sym c.holds_row.ensures ∙ c.if-not-holds_row.false), (c.read_word-which.ensures, c.if-which-eq8.false))
 
 pub returns : goal.returns
 returns c =
-    record { stepped = λ h. stepped _ _ c.run_other-r.ensures; unchanged = λ h. absurd (stands _ _ (sym c.holds_row.ensures ∙ c.if-not-holds_row.false) h) }
+    record { stepped = λ h. stepped _ _ c.run_other-after.ensures; unchanged = λ h. absurd (stands _ _ (sym c.holds_row.ensures ∙ c.if-not-holds_row.false) h) }

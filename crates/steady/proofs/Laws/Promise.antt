@@ -6,15 +6,13 @@ use mathlib.Core.Option.{Option, none, some}
 use Prim.Native.Nat.{ℕ}
 use native.Mathlib.Omega.{arith}
 use Rattle.tag.specs.Tags.{Tag, empty}
-use Rattle.tag.specs.declared.Tag.{Tag as Label}
-use Rattle.tag.specs.View.{bytes_of, Made}
 use Rattle.geometry.specs.declared.vec3f.Vec3.{Vec3}
 use Rattle.model.specs.declared.implicit_model.Model.{Model as Record}
-use Rattle.model.specs.Edit.{Edit}
+use Rattle.model.specs.Edit.{Edit, Answer, refused as turned}
+use Rattle.model.specs.Answer.{refusal_of}
+use Rattle.model.specs.declared.model_error.Refusal.{Refusal}
+use Rattle.std.specs.Prelude.{Result, Err}
 use Rattle.model.specs.Form.{Reply, handed}
-use Rattle.model.specs.declared.model_error.ModelError.TheVariants.{InvalidModel}
-use Rattle.evaluating.specs.declared.evaluate.Evaluating.TheVariants.{Refused as Handed}
-use Rattle.evaluating.specs.declared.evaluate.Evaluation.{Evaluation}
 use Rattle.evaluating.specs.Evaluate.{EvaluatesAs, reply_of}
 use Rattle.layout.specs.Some.{is_some}
 use Rattle.edit_rows.specs.EditRows.{edits_of}
@@ -31,18 +29,16 @@ promised : (m n : Record) (t : Tag) (p : Vec3) (r : Reply) (o : Option (List Edi
 promised m n t p r none h k = absurd (let z : ◌≡◌ {A = ℕ} 0 1 = cc in let y : ⊥ = omega arith in y)
 promised m n t p r (some es) h k = k es refl
 
--- bytes that are no list
-pub after_none : (s : List ℕ) (m : Record) (t : Tag) (p : Vec3) {e : Label} → is_some (edits_of s) ≡ false → Made empty e
-    → After (edits_of s) m t p (record { evaluation = record { answer = Handed InvalidModel; tag = e; index = 0 }; model = m })
-after_none s m t p {e} h k = record {
-  promised = refused m t p (handed 7 (bytes_of e) 0) (edits_of s) h (record { model = refl; reply = ap (λ (u : Tag). handed 7 u 0) k.labelled.bytes });
-  plain = λ b q. (k.labelled.bytes, refl);
-}
+-- a refusal as a reply
+abbrev as_reply : Answer → Reply
+as_reply (turned n t i) = handed n t i
+as_reply a = handed 0 empty 0
 
-pub after_list : (s : List ℕ) {m n : Record} {t u : Tag} {p : Vec3} {r : Evaluation} → is_some (edits_of s) ≡ true → Listed s m t n u → EvaluatesAs n u p r
-    → After (edits_of s) m t p (record { evaluation = r; model = n })
-after_list s {m} {n} {t} {u} {p} {r} h l e = record {
-  promised =
-      promised m n t p (reply_of r.answer (bytes_of r.tag) r.index) (edits_of s) h (λ es g. at_end (l es g) e.unfit e.fitting);
-  plain = e.plain;
-}
+-- bytes that are no list
+pub after_none : (s : List ℕ) (m : Record) (t : Tag) (p : Vec3) (e : Refusal) → is_some (edits_of s) ≡ false → refusal_of e ≡ turned 7 empty 0
+    → After (edits_of s) m t p (record { reply = Err e; model = m })
+after_none s m t p e h k = record { promised = refused m t p (reply_of (Err e)) (edits_of s) h (record { model = refl; reply = ap as_reply k }) }
+
+pub after_list : (s : List ℕ) {m n : Record} {t u : Tag} {p : Vec3} {r : Result ℕ Refusal} → is_some (edits_of s) ≡ true → Listed s m t n u → EvaluatesAs n u p r
+    → After (edits_of s) m t p (record { reply = r; model = n })
+after_list s {m} {n} {t} {u} {p} {r} h l e = record { promised = promised m n t p (reply_of r) (edits_of s) h (λ es g. at_end (l es g) e.unfit e.fitting) }

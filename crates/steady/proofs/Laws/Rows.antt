@@ -1,5 +1,5 @@
 -- The rows of a list of edits, run one after the other. Assumes nothing.
-use Prim.Native.Nat.{ℕ, ◌+◌, ◌*◌, ◌-◌, ◌/◌, ◌%◌, ◌≤◌, ◌<◌}
+use Prim.Native.Nat.{ℕ, suc, ◌+◌, ◌*◌, ◌-◌, ◌/◌, ◌%◌, ◌≤◌, ◌<◌}
 use mathlib.Core.Path.{◌≡◌, refl, sym, ◌∙◌, ap, subst}
 use mathlib.Core.List.{List, [], ◌∷◌}
 use mathlib.Core.Option.{Option, none, some, none-ne-some, some-injective}
@@ -10,7 +10,6 @@ use Rattle.tag.specs.Tags.{Tag}
 use Rattle.model.specs.declared.implicit_model.Model.{Model as Record}
 use Rattle.model.specs.Edit.{Edit}
 use Rattle.edit_rows.specs.EditRows.{edit_at, ahead, rows_at, edits_of}
-use Rattle.edit_rows.proofs.Laws.{rows_next}
 use Rattle.newest.specs.Place.{tag_at}
 use Rattle.row_running.specs.Steps.{Stepped}
 use Rattle.row_running.proofs.Laws.Row.{chosen}
@@ -37,6 +36,13 @@ pub record Rest (s : List ℕ) (n i : ℕ) (es : List Edit) (m : Record) (t : Ta
 
 abbrev pub Resting : List ℕ → ℕ → ℕ → Record → Tag → Record → Tag → Type 0
 Resting s n i m t w u = (es : List Edit) → edits_of s ≡ some es → Rest s n i es m t w u
+
+-- a row and the rows after it
+rows_next : (s : List ℕ) (n i : ℕ) → i < n → rows_at (n - i) s (i * 256) ≡ ahead (edit_at s (i * 256)) (rows_at (n - (i + 1)) s ((i + 1) * 256))
+unfolding rows_at
+rows_next s n i h =
+    ap (λ (k : ℕ). rows_at k s (i * 256)) (let z : n - i ≡ suc (n - (i + 1)) = omega arith in z)
+    ∙ ap (λ (k : ℕ). ahead (edit_at s (i * 256)) (rows_at (n - (i + 1)) s k)) (let z : i * 256 + 256 ≡ (i + 1) * 256 = omega arith in z)
 
 pub rest_start : (s : List ℕ) (m : Record) (t : Tag) → Resting s (length s / 256) 0 m t m (tag_at t s 0)
 unfolding edits_of tag_at

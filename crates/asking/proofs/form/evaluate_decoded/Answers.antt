@@ -1,11 +1,16 @@
 -- `asking::form::evaluate_decoded` meets its contract. Assumes nothing.
-use borrow.Author.Tests.{not-true, not-false}
-use Rattle.asking.proofs.Laws.Form.{evaluate_7, evaluate_done}
+use Rattle.std.proofs.Common.{subst}
+use Rattle.evaluating.specs.Evaluate.{EvaluatesAs}
+use Rattle.asking.proofs.Laws.Form.{evaluate_7, evaluate_number, evaluate_refused}
 use Rattle.asking.proofs.form.evaluate_decoded.Goals as goal
 
 pub returns-then-not-d : goal.returns-then-not-d
-returns-then-not-d c = evaluate_7 _ _ c.decode-d.ensures (not-true _ c.if-not-d.true) c.say_code.ensures
+returns-then-not-d c = evaluate_7 _ _ c.decode-d.ensures c.if-not-d.true c.say_code.ensures
 
-pub returns : goal.returns
-returns c =
-    evaluate_done _ _ c.decode-d.ensures (not-false _ c.if-not-d.false) c.evaluate_at-r.ensures c.reply_code.ensures c.reply_bits.ensures c.say.ensures
+pub returns-in-Ok : goal.returns-in-Ok
+returns-in-Ok c =
+    evaluate_number _ _ c.decode-d.ensures c.if-not-d.false (subst (EvaluatesAs _ _ _) c.in-Ok.is c.evaluate_at.ensures) c.default.ensures.labelled.bytes c.say.ensures
+
+pub returns-in-Err : goal.returns-in-Err
+returns-in-Err c =
+    evaluate_refused _ _ c.decode-d.ensures c.if-not-d.false (subst (EvaluatesAs _ _ _) c.in-Err.is c.evaluate_at.ensures) c.from-code.ensures c.say-in-Err.ensures

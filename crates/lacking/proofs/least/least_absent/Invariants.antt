@@ -1,5 +1,4 @@
--- `lacking::least::least_absent` meets its contract: `Laws/Least.antt`, `Laws/Node.antt`. Assumes nothing.
-use Prim.Native.Nat.{◌*◌, ◌≤◌, ◌-◌, min}
+-- `lacking::least::least_absent` meets its contract: `Laws/Least.antt`. Assumes nothing.
 use mathlib.Core.Path.{◌≡◌}
 use mathlib.Core.Bool.{true}
 use Rattle.model.specs.View.{passes}
@@ -9,7 +8,4 @@ use Rattle.lacking.specs.Least.{LeastOf, AbsentShown}
 use Rattle.lacking.proofs.least.least_absent.Given as goal
 
 abbrev pub invariant-loop-j : goal.invariant-loop-j
-invariant-loop-j l = (l.n ≡ min l.m.list_count 128 * 4) × (l.j ≤ l.n) × (passes l.m ≡ true → Resolved no_list l.m l.found → LeastOf (AbsentShown no_list l.m l.found l.seen l.j) l.b)
-
-abbrev pub decreases-loop-j : goal.decreases-loop-j
-decreases-loop-j l = l.n - l.j
+invariant-loop-j l = passes l.m ≡ true → Resolved no_list l.m l.found → LeastOf (AbsentShown no_list l.m l.found l.seen l.j) l.least

@@ -1,5 +1,4 @@
--- `lacking::least::least_gap` meets its contract: `Laws/Drawing.antt`, `Laws/Least.antt`, `Laws/Node.antt`. Assumes nothing.
-use Prim.Native.Nat.{◌≤◌, ◌-◌, min}
+-- `lacking::least::least_gap` meets its contract: `Laws/Least.antt`. Assumes nothing.
 use mathlib.Core.Path.{◌≡◌}
 use mathlib.Core.Bool.{true}
 use Rattle.model.specs.View.{passes}
@@ -9,7 +8,4 @@ use Rattle.lacking.specs.Least.{LeastOf, GapShown}
 use Rattle.lacking.proofs.least.least_gap.Given as goal
 
 abbrev pub invariant-loop-l : goal.invariant-loop-l
-invariant-loop-l l = (l.n ≡ min l.m.list_count 128) × (l.l ≤ l.n) × (passes l.m ≡ true → Resolved no_list l.m l.found → LeastOf (GapShown no_list l.m l.found l.seen l.l) l.b)
-
-abbrev pub decreases-loop-l : goal.decreases-loop-l
-decreases-loop-l l = l.n - l.l
+invariant-loop-l l = passes l.m ≡ true → Resolved no_list l.m l.found → LeastOf (GapShown no_list l.m l.found l.seen l.l) l.least

@@ -1,17 +1,16 @@
 -- `lacking::least::take_in` meets its contract. Assumes nothing.
 use mathlib.Core.Path.{sym, ◌∙◌}
-use borrow.Author.Tests.{not-true, not-false}
 use Rattle.lacking.specs.Least.{take_in}
 use Rattle.lacking.proofs.least.take_in.Goals as goal
 
-pub returns-then-not-b : goal.returns-then-not-b
+pub returns-in-Some : goal.returns-in-Some
 unfolding take_in
-returns-then-not-b c = rw (not-true c.args.b.some c.if-not-b.true)
+returns-in-Some c = rw (c.in-Some.is, sym c.comes_before.ensures ∙ c.if-not-comes_before.true)
 
-pub returns-then-comes_before : goal.returns-then-comes_before
+pub returns-in_default : goal.returns-in_default
 unfolding take_in
-returns-then-comes_before c = rw (not-false c.args.b.some c.if-not-b.false, sym c.comes_before.ensures ∙ c.if-comes_before.true)
+returns-in_default c = rw (c.in-Some.is, sym c.comes_before.ensures ∙ c.if-not-comes_before.false)
 
-pub returns : goal.returns
+pub returns-in_default-2 : goal.returns-in_default-2
 unfolding take_in
-returns c = rw (not-false c.args.b.some c.if-not-b.false, sym c.comes_before.ensures ∙ c.if-comes_before.false)
+returns-in_default-2 c = rw c.in_default.is

@@ -1,25 +1,21 @@
 -- `resolving::slots::slot_at` meets its contract: `Laws/Places.antt`. Assumes nothing.
-use mathlib.Core.Path.{◌≡◌, refl}
-use lib.ListN.{length}
-use Rattle.resolving.proofs.Laws.Places.{slot_own, slot-past, slot-named, slot_gap}
+use mathlib.Core.Path.{sym, ◌∙◌}
+use Rattle.std.specs.Prelude.{None}
+use Rattle.resolving.proofs.Laws.Places.{slot_own, slot-past, slot-named, slot-gap}
 use Rattle.resolving.proofs.slots.slot_at.Goals as goal
 
 pub returns-then-q-eq0 : goal.returns-then-q-eq0
-returns-then-q-eq0 c =
-    let long : length c.args.l.places ≡ 3 = c.well_formed.0.1.1.1.1.0.1.0.1 in
-    slot_own c.args.l (long) c.args.q c.if-q-eq0.true _ refl
+returns-then-q-eq0 c = slot_own c.args.l.now c.args.q c.if-q-eq0.true
 
-pub returns-then-n-p : goal.returns-then-n-p
-returns-then-n-p c =
-    let long : length c.args.l.places ≡ 3 = c.well_formed.0.1.1.1.1.0.1.0.1 in
-    slot-past c.args.l (long) c.args.q c.at_most-n.result c.at_most-n.ensures c.if-q-eq0.false c.if-n-p.true c.args.l.tag
+pub returns-in_default : goal.returns-in_default
+returns-in_default c = slot-past c.args.l.now c.args.q c.if-q-eq0.false c.live_places.ensures.rows c.in_default.ensures.lookup.3
 
-pub returns-then-e : goal.returns-then-e
-returns-then-e c =
-    let long : length c.args.l.places ≡ 3 = c.well_formed.0.1.1.1.1.0.1.0.1 in
-    slot-named c.args.l (long) c.args.q c.at_most-n.result c.at_most-n.ensures c.if-q-eq0.false c.if-n-p.false c.if-e.true
+pub returns-in-Some-place : goal.returns-in-Some-place
+returns-in-Some-place c =
+    let found = c.in-Some.ensures.lookup.3 in
+    slot-named c.args.l.now c.args.q c.if-q-eq0.false c.live_places.ensures.rows found.0 _ (sym c.in-Some-place.is ∙ found.1 None)
 
-pub returns : goal.returns
-returns c =
-    let long : length c.args.l.places ≡ 3 = c.well_formed.0.1.1.1.1.0.1.0.1 in
-    slot_gap c.args.l (long) c.args.q c.at_most-n.result c.at_most-n.ensures c.if-q-eq0.false c.if-n-p.false c.if-e.false
+pub returns-in-None : goal.returns-in-None
+returns-in-None c =
+    let found = c.in-Some.ensures.lookup.3 in
+    slot-gap c.args.l.now c.args.q c.if-q-eq0.false c.live_places.ensures.rows found.0 (sym c.in-None.is ∙ found.1 None)
