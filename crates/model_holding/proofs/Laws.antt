@@ -1,11 +1,21 @@
 -- What stands in bytes, by its checks. Assumes nothing.
-use Prim.Native.Nat.{ℕ, suc, ◌+◌, ◌*◌, ◌-◌, ◌≤◌}
+use Prim.Native.Nat.{ℕ, zero, suc, ◌+◌, ◌*◌, ◌-◌, ◌≤◌, ◌<◌}
 use native.Mathlib.Omega.{arith}
 use mathlib.Core.Path.{◌≡◌, refl, sym, ap, subst, ◌∙◌}
 use mathlib.Core.Bool.{Bool, true, false, cond}
 use mathlib.Core.List.{List, [], ◌∷◌, ◌++◌}
 use mathlib.Core.Option.{Option, none, some, map}
-use lib.ListN.{take, drop}
+use lib.ListN.{take, drop, length}
+use Rattle.std.specs.declared.ops.Range.{Range}
+use Rattle.std.specs.Prelude.{Option as Maybe, MatchOption}
+use Rattle.std.specs.Bool.{MatchBool}
+use Rattle.std.specs.Fn.{Called}
+use Rattle.std.specs.Iterator.{YieldsThen}
+use Rattle.std.specs.List.{range_with_len, FoldsTo, AllWithin}
+use Rattle.std.proofs.iter.Yields.{nat_range_steps}
+use Rattle.std.proofs.lemmas.Iterator.{cases_from_all, YieldsList-from_range}
+use denote.Param.Members.{Mut}
+use Rattle.std.proofs.lemmas.List.FromFn.{length-range_with_len, get_or-range_with_len}
 use borrow.Author.Tests.{le-leb}
 use Rattle.component.specs.declared.model_component.Component.{Component}
 use Rattle.model.specs.Table.{Table}
@@ -18,10 +28,6 @@ use Rattle.rows.proofs.Laws.Tests.{apart}
 use Rattle.rows.proofs.Laws.Reading.{rows_append}
 use Rattle.row_reading.proofs.Laws.{blank_as}
 use Rattle.model_bytes.proofs.Laws.Reading.{entry_is, list_is}
-
--- a no says nothing
-pub not_held : {A : Type 0} {there : Option A} → false ≡ true → Held there
-not_held e = absurd (apart e refl)
 
 held_as : {A : Type 0} {o p : Option A} → o ≡ p → Held p → Held o
 held_as e h = record { held = h.held; is = e ∙ h.is }
@@ -57,16 +63,26 @@ pub list-checked : (s : List ℕ) (at : ℕ) {n : ℕ} {b : Bool} → n ≡ word
 list-checked s at {n} w h t e q r =
     record { held = (t.held, r.held); is = list_is s at w h (blank_as s (at + 48 + 40 * n) (at + 168) (40 * (3 - n)) e (omega arith) ∙ q) t.is r.is }
 
-module _ {A : Type 0} (row : ℕ → Option A) where
-  pub none-held : Held (rows_in row 0)
-  unfolding rows_in
-  none-held = record { held = []; is = refl }
+-- ---- rows
 
-  pub more-held : (i : ℕ) → Held (rows_in row i) → Held (row i) → Held (rows_in row (i + 1))
-  more-held i h r = record { held = h.held ++ (r.held ∷ []); is = rows_append row i h.is r.is }
+-- what `all` over 0..n shows of each number below n
+pub all_below : {F : Type 0} {g : Mut F (ℕ × Unit {0}) Bool} (P : ℕ → Type 0) (n : ℕ) (u : Range ℕ) (f : F) (r : Bool)
+    → (xs : List ℕ) × (o : Maybe ℕ) × (j : F) × YieldsThen nat_range_steps (record { start = 0; end = n }) xs o u × FoldsTo (λ p x q. Called g p (x, tt) true q) f xs j × MatchOption o (r ≡ true) (λ x. (r ≡ false) × ((h : F) × Called g j (x, tt) false h))
+    → ((x : ℕ) (q : F) → Called g f (x, tt) true q → (q ≡ f) × P x) → r ≡ true → (i : ℕ) → i < n → P i
+all_below {g = g} P n u f r ran shows =
+    go r _ (cases_from_all {g = g} u f r P (λ i. Unit {0}) ran (YieldsList-from_range 0 n n refl (omega arith)) shows (λ x q k. tt))
+  where
+    go : (r : Bool) (otherwise : Type 0) → MatchBool r (AllWithin P (range_with_len 0 n) 0 (length (range_with_len 0 n))) otherwise → r ≡ true → (i : ℕ) → i < n → P i
+    go true otherwise m e i l = subst P (get_or-range_with_len 0 n i 0 l ∙ omega arith) (m i 0 (omega arith) (omega (arith, length-range_with_len 0 n)))
+    go false otherwise m e i l = absurd (apart e refl)
 
-  pub all_held : {i n : ℕ} → Held (rows_in row i) → i ≡ n → Held (rows_in row n)
-  all_held h e = subst (λ (k : ℕ). Held (rows_in row k)) e h
+pub rows_held : {A : Type 0} (row : ℕ → Option A) (n : ℕ) → ((i : ℕ) → i < n → Held (row i)) → Held (rows_in row n)
+unfolding rows_in
+rows_held row zero h = record { held = []; is = refl }
+rows_held row (suc n) h =
+    let below = rows_held row n (λ i l. h i (omega arith)) in
+    let last = h n (omega arith) in
+    record { held = below.held ++ (last.held ∷ []); is = ap (rows_in row) (let z : suc n ≡ n + 1 = omega arith in z) ∙ rows_append row n below.is last.is }
 
 pub model-held : (s : List ℕ) {n k : ℕ} → headed s ≡ true → Held (place_in s 24) → n ≡ word s 8 → Held (rows_in (entry_row s) n) → k ≡ word s 16 → Held (rows_in (list_row s) k) → Held (model_in s)
 unfolding model_in

@@ -1,52 +1,46 @@
 // Whether bytes hold a model: the checks of decoding, without a table. A yes is right; it is decode that says which model.
-ghost use Rattle.std.specs.Prelude.{◌≡◌, true, ◌+◌, ◌≤◌, length};
+ghost use Rattle.std.specs.Prelude.{◌≡◌, true, ◌+◌, ◌≤◌};
 ghost use Rattle.rows.specs.Rows.{text_in, tag_in, place_in, rows_in, place_row};
 ghost use Rattle.model_bytes.specs.ModelBytes.{entry_in, list_in, entry_row, list_row, model_in};
 ghost use Rattle.model_holding.specs.Holds.{Held};
 
-use component_layout::component_words::ComponentRead;
 use layout::words::read_word;
 use model_bytes::decode::is_headed;
 use row_reading::{is_blank, read_component};
 
 fn is_text(s: &[u8], at: usize, n: usize) -> bool
-    requires { at + 32 ≤ length s.now }
+    requires { at + 32 ≤ 27200 }
     ensures { result ≡ true → Held (text_in n s.now at) }
 {
-    if 32 < n {
-        return false;
-    }
-    is_blank(s, at + n, at + 32)
+    n <= 32 && is_blank(s, at + n, at + 32)
 }
 
 fn is_tag(s: &[u8], at: usize) -> bool
-    requires { at + 40 ≤ length s.now }
+    requires { at + 40 ≤ 27200 }
     ensures { result ≡ true → Held (tag_in s.now at) }
 {
-    let n = read_word(s, at) as usize;
-    is_text(s, at + 8, n)
+    is_text(s, at + 8, read_word(s, at) as usize)
 }
 
 fn is_place(s: &[u8], at: usize) -> bool
-    requires { at + 40 ≤ length s.now }
+    requires { at + 40 ≤ 27200 }
     ensures { result ≡ true → Held (place_in s.now at) }
 {
-    let n = read_word(s, at) as usize;
-    if n == 0 {
-        return is_blank(s, at + 8, at + 40);
+    match read_word(s, at) as usize {
+        0 => is_blank(s, at + 8, at + 40),
+        n => is_text(s, at + 8, n - 1),
     }
-    is_text(s, at + 8, n - 1)
 }
 
 fn is_entry(s: &[u8], at: usize) -> bool
-    requires { at + 88 ≤ length s.now }
+    requires { at + 88 ≤ 27200 }
     ensures { result ≡ true → Held (entry_in s.now at) }
 {
     if !is_tag(s, at) {
         return false;
     }
     let read = read_component(s, at + 40);
-    let ComponentRead::Component(_c) = read else {
+    let Some(_c) = read else {
         return false;
     };
     true
@@ -54,21 +48,14 @@ fn is_entry(s: &[u8], at: usize) -> bool
 
 // The first n of three places.
 fn are_places(s: &[u8], at: usize, n: usize) -> bool
-    requires { (n ≤ 3) × (at + 120 ≤ length s.now) }
+    requires { (n ≤ 3) × (at + 120 ≤ 27200) }
     ensures { result ≡ true → Held (rows_in (place_row s.now at) n) }
 {
-    let mut i: usize = 0;
-    while i < n {
-        if !is_place(s, at + 40 * i) {
-            return false;
-        }
-        i += 1;
-    }
-    true
+    (0..n).all(|i| is_place(s, at + 40 * i))
 }
 
 fn is_list(s: &[u8], at: usize) -> bool
-    requires { at + 168 ≤ length s.now }
+    requires { at + 168 ≤ 27200 }
     ensures { result ≡ true → Held (list_in s.now at) }
 {
     if !is_tag(s, at) {
@@ -86,32 +73,18 @@ fn is_list(s: &[u8], at: usize) -> bool
 
 // The first n components.
 fn are_entries(s: &[u8], n: usize) -> bool
-    requires { (n ≤ 64) × (length s.now ≡ 27200) }
+    requires { n ≤ 64 }
     ensures { result ≡ true → Held (rows_in (entry_row s.now) n) }
 {
-    let mut i: usize = 0;
-    while i < n {
-        if !is_entry(s, 64 + 88 * i) {
-            return false;
-        }
-        i += 1;
-    }
-    true
+    (0..n).all(|i| is_entry(s, 64 + 88 * i))
 }
 
 // The first n input lists.
 fn are_lists(s: &[u8], n: usize) -> bool
-    requires { (n ≤ 128) × (length s.now ≡ 27200) }
+    requires { n ≤ 128 }
     ensures { result ≡ true → Held (rows_in (list_row s.now) n) }
 {
-    let mut i: usize = 0;
-    while i < n {
-        if !is_list(s, 5696 + 168 * i) {
-            return false;
-        }
-        i += 1;
-    }
-    true
+    (0..n).all(|i| is_list(s, 5696 + 168 * i))
 }
 
 // Whether the bytes hold a model.
@@ -124,10 +97,8 @@ pub fn holds(bytes: &[u8]) -> bool
     if !is_place(bytes, 24) {
         return false;
     }
-    let n = read_word(bytes, 8) as usize;
-    if !are_entries(bytes, n) {
+    if !are_entries(bytes, read_word(bytes, 8) as usize) {
         return false;
     }
-    let k = read_word(bytes, 16) as usize;
-    are_lists(bytes, k)
+    are_lists(bytes, read_word(bytes, 16) as usize)
 }

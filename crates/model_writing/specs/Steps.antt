@@ -1,8 +1,7 @@
 -- What the helpers of encoding answer. Definitions only.
 use Rattle.std.specs.Prelude.{ℕ, ◌≡◌, List}
 use Rattle.std.proofs.Math.Option.{some}
-use Rattle.model.specs.declared.implicit_model.Place.{Place as PlaceRecord}
-use Rattle.model.specs.View.{place_of}
+use Rattle.model.specs.View.{PlaceRecord, place_of}
 use Rattle.layout.specs.Words.{word}
 use Rattle.layout.specs.Writing.{Kept}
 use Rattle.rows.specs.Rows.{place_in}

@@ -2,36 +2,17 @@
 ghost use Rattle.std.specs.Prelude.{◌≡◌};
 ghost use Rattle.model.specs.View.{rows, every, place_fits, entry_fits, list_fits, fits};
 
-use held::find::{components_held, lists_held, places_held};
-use model::implicit_model::{InputList, Model, Place};
+use model::implicit_model::{ComponentEntry, InputList, Model};
+use sound_lists::place_fits;
 
-fn place_fits(p: Place) -> bool
-    ensures { result ≡ place_fits p }
+fn places_fit(l: &InputList) -> bool
+    ensures { result ≡ every (rows place_fits l.now.count l.now.places) }
 {
-    if p.assigned {
-        return p.tag.len <= 32;
-    }
-    true
+    l.live_places().iter().all(place_fits)
 }
 
-fn places_fit(l: InputList) -> bool
-    ensures { result ≡ every (rows place_fits l.count l.places) }
-{
-    let n = places_held(l);
-    let mut i: usize = 0;
-    while i < n {
-        let p = l.places[i];
-        if place_fits(p) {
-            i += 1;
-        } else {
-            return false;
-        }
-    }
-    true
-}
-
-fn list_fits(l: InputList) -> bool
-    ensures { result ≡ list_fits l }
+fn list_fits(l: &InputList) -> bool
+    ensures { result ≡ list_fits l.now }
 {
     if 32 < l.tag.len {
         return false;
@@ -42,40 +23,27 @@ fn list_fits(l: InputList) -> bool
     places_fit(l)
 }
 
-fn lists_fit(m: Model) -> bool
-    ensures { result ≡ every (rows list_fits m.list_count m.lists) }
+fn lists_fit(m: &Model) -> bool
+    ensures { result ≡ every (rows list_fits m.now.list_count m.now.lists) }
 {
-    let n = lists_held(m);
-    let mut i: usize = 0;
-    while i < n {
-        let l = m.lists[i];
-        if list_fits(l) {
-            i += 1;
-        } else {
-            return false;
-        }
-    }
-    true
+    m.live_lists().iter().all(list_fits)
 }
 
-fn components_fit(m: Model) -> bool
-    ensures { result ≡ every (rows entry_fits m.component_count m.components) }
+fn entry_fits(e: &ComponentEntry) -> bool
+    ensures { result ≡ entry_fits e.now }
 {
-    let n = components_held(m);
-    let mut i: usize = 0;
-    while i < n {
-        let e = m.components[i];
-        if 32 < e.tag.len {
-            return false;
-        }
-        i += 1;
-    }
-    true
+    e.tag.len <= 32
+}
+
+fn components_fit(m: &Model) -> bool
+    ensures { result ≡ every (rows entry_fits m.now.component_count m.now.components) }
+{
+    m.live_components().iter().all(entry_fits)
 }
 
 // Whether the record is within its sizes: the part of 7 that bytes depend on.
-pub fn model_fits(m: Model) -> bool
-    ensures { result ≡ fits m }
+pub fn model_fits(m: &Model) -> bool
+    ensures { result ≡ fits m.now }
 {
     if 64 < m.component_count {
         return false;
@@ -89,6 +57,5 @@ pub fn model_fits(m: Model) -> bool
     if !lists_fit(m) {
         return false;
     }
-    let p = m.default;
-    place_fits(p)
+    place_fits(&m.default)
 }

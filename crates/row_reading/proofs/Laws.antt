@@ -1,21 +1,16 @@
--- What is read at a place: bytes that are 0, and a component. Assumes nothing.
+-- What is read at a place: bytes that are 0. Assumes nothing.
 use Prim.Native.Nat.{ℕ, zero, suc, ◌+◌, ◌-◌, ◌≤◌, ◌<◌, min}
 use mathlib.Core.Path.{◌≡◌, refl, sym, ap, ◌∙◌}
 use mathlib.Core.Logic.{◌⊎◌, inl, inr}
-use mathlib.Core.Bool.{Bool, true, false, ◌&&◌, cond, true≢false}
+use mathlib.Core.Bool.{Bool, true, false, ◌&&◌, true≢false}
 use mathlib.Core.List.{List}
-use mathlib.Core.Option.{Option, none, some}
 use native.Mathlib.Nat.{eq-or-lt_of_le, le_of_suc-le-suc}
 use native.Mathlib.Decide.{dec_lt, ℕ_discrete}
 use native.Mathlib.Omega.{arith}
 use lib.Dec.{eqb}
 use lib.ListN.{length, get_or, get_or-eq_default}
 use borrow.Author.Tests.{eq-eqb, ne_eqb}
-use Rattle.component.specs.declared.model_component.Component.{Component}
-use Rattle.component_layout.specs.Components.{component_from}
-use Rattle.component_layout.specs.declared.component_numbers.ComponentWords.{ComponentWords}
-use Rattle.component_layout.specs.Numbers.{words_of}
-use Rattle.rows.specs.Rows.{blank, six_in, same_words, spelled, component_of_words, component_in}
+use Rattle.rows.specs.Rows.{blank}
 use Rattle.rows.proofs.Laws.Tests.{and_true, and_false}
 use Rattle.rows.proofs.Laws.Reading.{blank-more}
 
@@ -66,16 +61,3 @@ module _ (s : List ℕ) (start i : ℕ) (h : start ≤ i) where
 
 pub blank_as : (s : List ℕ) (at end n : ℕ) {b : Bool} → b ≡ blank s at (end - at) → end - at ≡ n → blank s at n ≡ b
 blank_as s at end n e q = ap (blank s at) (sym q) ∙ sym e
-
--- ---- components
-
-module _ (s : List ℕ) (at : ℕ) {w : ComponentWords} (e : w ≡ six_in s at) where
-  component_by : {o : Option Component} → o ≡ component_from w.kind w.a w.b w.c w.d w.e → component_in s at ≡ spelled w o
-  unfolding component_in
-  component_by p = ap component_of_words (sym e) ∙ ap (spelled w) (sym p)
-
-  pub component-none : {o : Option Component} → o ≡ component_from w.kind w.a w.b w.c w.d w.e → o ≡ none → none ≡ component_in s at
-  component-none p q = sym (component_by p ∙ ap (spelled w) q)
-
-  pub component_own : (c : Component) {b : Bool} → some c ≡ component_from w.kind w.a w.b w.c w.d w.e → b ≡ same_words (words_of c) w → cond b (some c) none ≡ component_in s at
-  component_own c p q = ap (λ (b : Bool). cond b (some c) none) q ∙ sym (component_by p)

@@ -3,24 +3,21 @@
 
 ghost use Rattle.std.specs.Prelude.{◌≡◌, ◌-◌};
 ghost use Rattle.component_layout.specs.Components.{component_read};
-ghost use Rattle.rows.specs.Rows.{blank, six_in, same_words, component_in};
+ghost use Rattle.rows.specs.Rows.{blank, six_in, component_in};
 
-use component_layout::component_numbers::{ComponentWords, words_of};
-use component_layout::component_words::{ComponentRead, component_from};
+use component::model_component::Component;
+use component_layout::component_numbers::ComponentWords;
+use component_layout::component_words::component_from;
 use layout::words::{read_word, word_past};
-use tag::at_most;
 
 // Whether the bytes from a place up to another are 0. Past the slice's end stands 0.
 pub fn is_blank(s: &[u8], start: usize, end: usize) -> bool
     ensures { result ≡ blank s.now start (end - start) }
 {
-    let stop = at_most(end, s.len());
-    let mut i: usize = start;
-    while i < stop {
+    for i in start..end.min(s.len()) {
         if s[i] != 0 {
             return false;
         }
-        i += 1;
     }
     true
 }
@@ -36,48 +33,25 @@ fn read_six(s: &[u8], at: usize) -> ComponentWords
     let d = word_past(s, at, 32);
     let e = word_past(s, at, 40);
     ComponentWords {
-        kind: kind,
-        a: a,
-        b: b,
-        c: c,
-        d: d,
-        e: e,
+        kind,
+        a,
+        b,
+        c,
+        d,
+        e,
     }
-}
-
-fn same_words(v: ComponentWords, w: ComponentWords) -> bool
-    ensures { result ≡ same_words v w }
-{
-    if v.kind != w.kind {
-        return false;
-    }
-    if v.a != w.a {
-        return false;
-    }
-    if v.b != w.b {
-        return false;
-    }
-    if v.c != w.c {
-        return false;
-    }
-    if v.d != w.d {
-        return false;
-    }
-    v.e == w.e
 }
 
 // The component at a place, where the words are the component's own: a NaN has the one NaN's bits, and unused words are 0.
-pub fn read_component(s: &[u8], at: usize) -> ComponentRead
+#[tactic(auto, unfolding(rows::specs::Rows::component_in, rows::specs::Rows::same_words))]
+pub fn read_component(s: &[u8], at: usize) -> Option<Component>
     ensures { component_read result ≡ component_in s.now at }
 {
     let w = read_six(s, at);
-    let read = component_from(w.kind, w.a, w.b, w.c, w.d, w.e);
-    let ComponentRead::Component(c) = read else {
-        return ComponentRead::NoComponent;
-    };
-    let own = words_of(c);
-    if same_words(own, w) {
-        return ComponentRead::Component(c);
+    let c = component_from(w)?;
+    if ComponentWords::from(c) == w {
+        Some(c)
+    } else {
+        None
     }
-    ComponentRead::NoComponent
 }

@@ -8,7 +8,7 @@ use Rattle.model.specs.Model.{Place}
 use Rattle.model.specs.View.{rows, place_of}
 use Rattle.layout.specs.Words.{word}
 use Rattle.component_layout.specs.Components.{component_from}
-use Rattle.component_layout.specs.declared.component_numbers.ComponentWords.{ComponentWords}
+use Rattle.component_layout.specs.declared.component_numbers.Numbered.{Numbered}
 use Rattle.component_layout.specs.Numbers.{words_of}
 
 -- ---- what stands at byte `at` of s
@@ -35,17 +35,17 @@ unfoldable pub place_in : List ℕ → ℕ → Option Place
 place_in s at = place_from (word s at) s (at + 8)
 
 -- a component: six words, which are the component's own
-abbrev pub six_in : List ℕ → ℕ → ComponentWords
+abbrev pub six_in : List ℕ → ℕ → Numbered ℕ
 six_in s at = record { kind = word s at; a = word s (at + 8); b = word s (at + 16); c = word s (at + 24); d = word s (at + 32); e = word s (at + 40) }
 
-unfoldable pub same_words : ComponentWords → ComponentWords → Bool
+unfoldable pub same_words : Numbered ℕ → Numbered ℕ → Bool
 same_words v w = eqb v.kind w.kind && (eqb v.a w.a && (eqb v.b w.b && (eqb v.c w.c && (eqb v.d w.d && eqb v.e w.e))))
 
-abbrev pub spelled : ComponentWords → Option Component → Option Component
+abbrev pub spelled : Numbered ℕ → Option Component → Option Component
 spelled w none = none
 spelled w (some c) = cond (same_words (words_of c) w) (some c) none
 
-abbrev pub component_of_words : ComponentWords → Option Component
+abbrev pub component_of_words : Numbered ℕ → Option Component
 component_of_words w = spelled w (component_from w.kind w.a w.b w.c w.d w.e)
 
 unfoldable pub component_in : List ℕ → ℕ → Option Component

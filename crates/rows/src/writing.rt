@@ -1,5 +1,5 @@
 // Writing at a place; where there is no room, nothing is changed. A length or a count past its size counts as the size.
-ghost use Rattle.std.specs.Prelude.{◌≡◌, true, ◌+◌, ◌*◌, ◌-◌, ◌≤◌, min, leb, length, take, drop};
+ghost use Rattle.std.specs.Prelude.{◌≡◌, true, ◌+◌, ◌*◌, ◌-◌, ◌≤◌, min, leb, length, take, drop, map};
 ghost use Rattle.std.proofs.Math.Option.{some};
 ghost use Rattle.tag.specs.View.{bytes_of};
 ghost use Rattle.model.specs.View.{place_of};
@@ -8,11 +8,10 @@ ghost use Rattle.rows.specs.Rows.{blank, text_in, tag_in, place_in, six_in, comp
 ghost use Rattle.rows.specs.Written.{Wrote, Writes};
 
 use component::model_component::Component;
-use component_layout::component_numbers::{ComponentWords, words_of};
-use held::find::places_held;
+use component_layout::component_numbers::ComponentWords;
 use layout::writing::write_word;
 use model::implicit_model::{InputList, Place};
-use tag::{Tag, at_most};
+use tag::Tag;
 
 // Whether n bytes from a place on are in the slice.
 fn has_room(s: &[u8], at: usize, n: usize) -> bool
@@ -45,42 +44,33 @@ fn clear(s: &mut [u8], at: usize, n: usize)
     requires { at + n ≤ length s.old }
     ensures { Wrote (λ t. blank t at n) true at n s.old s.new }
 {
-    let mut i: usize = 0;
-    while i < n {
-        s[at + i] = 0;
-        i += 1;
-    }
+    s[at..at + n].fill(0);
 }
 
-// Writes the first n of the bytes b, which are 32.
-fn copy_bytes(s: &mut [u8], at: usize, b: [u8; 32], n: usize)
-    requires { (n ≤ 32) × (at + n ≤ length s.old) }
-    ensures { (length b ≡ 32) × Wrote (λ t. take n (drop at t)) (take n b) at n s.old s.new }
+// Writes some bytes.
+fn copy_bytes(s: &mut [u8], at: usize, b: &[u8])
+    requires { at + length b.now ≤ length s.old }
+    ensures { Wrote (λ t. take (length b.now) (drop at t)) b.now at (length b.now) s.old s.new }
 {
-    let mut i: usize = 0;
-    while i < n {
-        s[at + i] = b[i];
-        i += 1;
-    }
+    s[at..at + b.len()].copy_from_slice(b);
 }
 
-// Writes the n bytes of a tag into 32 bytes.
-fn write_text(s: &mut [u8], at: usize, t: Tag, n: usize)
-    requires { (at + 32 ≤ length s.old) × (n ≡ min t.len 32) }
-    ensures { Wrote (λ u. text_in n u at) (some (bytes_of t)) at 32 s.old s.new }
+// Writes the bytes of a tag into 32 bytes.
+fn write_text(s: &mut [u8], at: usize, b: &[u8])
+    requires { (at + 32 ≤ length s.old) × (length b.now ≤ 32) }
+    ensures { Wrote (λ u. text_in (length b.now) u at) (some b.now) at 32 s.old s.new }
 {
-    let b = t.bytes;
-    copy_bytes(s, at, b, n);
-    clear(s, at + n, 32 - n);
+    copy_bytes(s, at, b);
+    clear(s, at + b.len(), 32 - b.len());
 }
 
 fn put_tag(s: &mut [u8], at: usize, t: Tag)
     requires { at + 40 ≤ length s.old }
     ensures { Wrote (λ u. tag_in u at) (some (bytes_of t)) at 40 s.old s.new }
 {
-    let n = at_most(t.len, 32);
-    put_word(s, at, n as u64);
-    write_text(s, at + 8, t, n);
+    let b = t.as_bytes();
+    put_word(s, at, b.len() as u64);
+    write_text(s, at + 8, b);
 }
 
 // Writes a tag, 40 bytes.
@@ -96,15 +86,17 @@ fn put_place(s: &mut [u8], at: usize, p: Place)
     requires { at + 40 ≤ length s.old }
     ensures { Wrote (λ u. place_in u at) (some (place_of p)) at 40 s.old s.new }
 {
-    if p.assigned {
-        let t = p.tag;
-        let n = at_most(t.len, 32);
-        put_word(s, at, n as u64 + 1);
-        write_text(s, at + 8, t, n);
-        return;
+    match p {
+        Some(t) => {
+            let b = t.as_bytes();
+            put_word(s, at, b.len() as u64 + 1);
+            write_text(s, at + 8, b);
+        }
+        None => {
+            put_word(s, at, 0);
+            clear(s, at + 8, 32);
+        }
     }
-    put_word(s, at, 0);
-    clear(s, at + 8, 32);
 }
 
 // Writes a place, 40 bytes.
@@ -133,21 +125,18 @@ pub fn write_component(s: &mut [u8], at: usize, c: Component)
     ensures { Writes (λ u. component_in u at) (some c) at 48 s.old s.new }
 {
     if has_room(s, at, 48) {
-        let w = words_of(c);
+        let w = ComponentWords::from(c);
         put_six(s, at, w);
     }
 }
 
-// Writes the n places that the list has.
-fn put_places(s: &mut [u8], at: usize, l: InputList, n: usize)
-    requires { (at + 120 ≤ length s.old) × (n ≡ min l.count 3) }
-    ensures { Wrote (λ u. rows_in (place_row u at) n) (some (places_of n l)) at (40 * n) s.old s.new }
+// Writes places, 40 bytes each.
+fn put_places(s: &mut [u8], at: usize, places: &[Place])
+    requires { at + 40 * length places.now ≤ length s.old }
+    ensures { Wrote (λ u. rows_in (place_row u at) (length places.now)) (some (map place_of places.now)) at (40 * length places.now) s.old s.new }
 {
-    let mut i: usize = 0;
-    while i < n {
-        let p = l.places[i];
-        put_place(s, at + 40 * i, p);
-        i += 1;
+    for (i, p) in places.iter().enumerate() {
+        put_place(s, at + 40 * i, *p);
     }
 }
 
@@ -156,8 +145,9 @@ fn put_list_places(s: &mut [u8], at: usize, l: InputList)
     requires { at + 120 ≤ length s.old }
     ensures { Wrote (λ u. places_in (min l.count 3) u at) (some (places_of l.count l)) at 120 s.old s.new }
 {
-    let n = places_held(l);
-    put_places(s, at, l, n);
+    let places = l.live_places();
+    let n = places.len();
+    put_places(s, at, places);
     clear(s, at + 40 * n, 40 * (3 - n));
 }
 

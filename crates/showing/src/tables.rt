@@ -2,10 +2,7 @@
 ghost use Rattle.opened.specs.Said.{held_in, Says};
 ghost use Rattle.showing.specs.Tables.{of_default, component_at, component_under, list_place_at, list_under, ShowsComponent, ShowsList};
 
-use held::find::places_held;
-use held::reading::{
-    ComponentAnswer, component_at, get_component, get_default_output, get_inputs, list_at,
-};
+use held::reading::{component_at, get_component, get_default_output, get_inputs, list_at};
 use opened::{opened, say, say_code};
 use rows::writing::{write_component, write_places};
 use tag::tag_of;
@@ -18,13 +15,10 @@ pub fn dw_default(model: &[u8], out: &mut [u8]) -> u32
     if !d.ok {
         return say_code(out, 7);
     }
-    let m = d.model;
-    let p = get_default_output(m);
-    if p.assigned {
-        let t = p.tag;
-        return say(out, 0, 0, t, 1);
+    match get_default_output(&d.model) {
+        Some(t) => say(out, 0, 0, t, 1),
+        None => say_code(out, 0),
     }
-    say_code(out, 0)
 }
 
 // The component at a position of the table.
@@ -35,16 +29,11 @@ pub fn dw_component_at(model: &[u8], position: u64, words: &mut [u8], out: &mut 
     if !d.ok {
         return say_code(out, 7);
     }
-    let m = d.model;
-    let a = component_at(m, position as usize);
-    if a.held {
-        let e = a.entry;
-        let t = e.tag;
-        let c = e.component;
-        write_component(words, 0, c);
-        return say(out, 0, 0, t, 1);
-    }
-    say_code(out, 0)
+    let Some(e) = component_at(&d.model, position as usize) else {
+        return say_code(out, 0);
+    };
+    write_component(words, 0, e.component);
+    say(out, 0, 0, e.tag, 1)
 }
 
 // The component with that tag.
@@ -58,14 +47,12 @@ pub fn dw_get_component(model: &[u8], tag: &[u8], words: &mut [u8], out: &mut [u
     if 32 < tag.len() {
         return say_code(out, 1);
     }
-    let m = d.model;
     let t = tag_of(tag);
-    let a = get_component(m, t);
-    if let ComponentAnswer::Held(c) = a {
-        write_component(words, 0, c);
-        return say(out, 0, 0, t, 1);
-    }
-    say_code(out, 0)
+    let Some(c) = get_component(&d.model, t) else {
+        return say_code(out, 0);
+    };
+    write_component(words, 0, c);
+    say(out, 0, 0, t, 1)
 }
 
 // The input list at a position of the table.
@@ -76,15 +63,11 @@ pub fn dw_list_at(model: &[u8], position: u64, places: &mut [u8], out: &mut [u8]
     if !d.ok {
         return say_code(out, 7);
     }
-    let m = d.model;
-    let a = list_at(m, position as usize);
-    if a.held {
-        let l = a.list;
-        let t = l.tag;
-        write_places(places, 0, l);
-        return say(out, 0, 0, t, places_held(l) as u64 + 1);
-    }
-    say_code(out, 0)
+    let Some(l) = list_at(&d.model, position as usize) else {
+        return say_code(out, 0);
+    };
+    write_places(places, 0, l);
+    say(out, 0, 0, l.tag, l.live_places().len() as u64 + 1)
 }
 
 // The input list with that tag, whether the tag has a component or not.
@@ -98,13 +81,10 @@ pub fn dw_get_inputs(model: &[u8], tag: &[u8], places: &mut [u8], out: &mut [u8]
     if 32 < tag.len() {
         return say_code(out, 1);
     }
-    let m = d.model;
     let t = tag_of(tag);
-    let a = get_inputs(m, t);
-    if a.held {
-        let l = a.list;
-        write_places(places, 0, l);
-        return say(out, 0, 0, t, places_held(l) as u64 + 1);
-    }
-    say_code(out, 0)
+    let Some(l) = get_inputs(&d.model, t) else {
+        return say_code(out, 0);
+    };
+    write_places(places, 0, l);
+    say(out, 0, 0, t, l.live_places().len() as u64 + 1)
 }

@@ -1,15 +1,14 @@
 -- What the calls answer that read a parameter, and those that name a kind and its parameters. Definitions only.
-use Rattle.std.specs.Prelude.{ℕ, ◌+◌, ◌≡◌, cond, List}
+use Rattle.std.specs.Prelude.{ℕ, ◌+◌, ◌≡◌, cond, List, Option as Found, Some, None}
 use Rattle.std.proofs.Math.Option.{Option, none, some}
 use Rattle.tag.specs.Tags.{Tag, overlong, empty}
 use Rattle.component.specs.Value.{input_count}
 use Rattle.component.specs.Parameter.{Name, read_parameter}
-use Rattle.naming.specs.Names.{type_name, parameter_at}
+use Rattle.naming.specs.Names.{Entry, type_name, parameter_at}
+use Rattle.component.specs.declared.parameter.Data.{Data}
 use Rattle.component.specs.declared.parameter.Data.TheVariants.{Value, Vec3 as Vector, Boolean}
 use Rattle.component.specs.declared.parameter.DataType.{DataType}
-use Rattle.component.specs.declared.parameter.DataType.TheVariants.{Value as TakesValue, Vec3 as TakesVector, Nothing as TakesNothing}
-use Rattle.component.specs.declared.model_component.Reading.{Reading}
-use Rattle.component.specs.declared.model_component.Reading.TheVariants.{Read, Nothing}
+use Rattle.component.specs.declared.parameter.DataType.TheVariants.{Value as TakesValue, Vec3 as TakesVector}
 use Rattle.component.specs.declared.model_component.Component.{Component}
 use Rattle.model.specs.Model.{Model, component}
 use Rattle.component_layout.specs.Components.{component_from}
@@ -23,7 +22,7 @@ use Rattle.opened.specs.Said.{held_in, plain, answered, Says}
 
 pub data Asked : Type 0 where
   unread : ℕ → Tag → Asked
-  read : Reading → Asked
+  read : Found Data → Asked
 
 abbrev pub read_of : Tag → Name → Option Component → Asked
 read_of t n none = unread 12 t
@@ -40,22 +39,22 @@ abbrev pub parameter_in : List ℕ → Tag → Name → Asked
 parameter_in s t n = read_in t n (held_in s)
 
 -- no component has a boolean
-abbrev pub of_reading : Reading → Report
-of_reading Nothing = plain 0
-of_reading (Read (Value x)) = answered empty 1
-of_reading (Read (Vector v)) = answered empty 2
-of_reading (Read (Boolean b)) = plain 0
+abbrev pub of_reading : Found Data → Report
+of_reading None = plain 0
+of_reading (Some (Value x)) = answered empty 1
+of_reading (Some (Vector v)) = answered empty 2
+of_reading (Some (Boolean b)) = plain 0
 
 abbrev pub of_asked : Asked → Report
 of_asked (unread n t) = record { code = n; index = 0; tag = t; number = 0 }
 of_asked (read r) = of_reading r
 
 -- the bits in three words of 24 bytes; those that are not used are 0
-abbrev pub DataOf : Reading → List ℕ → List ℕ → Type 0
-DataOf Nothing s t = t ≡ s
-DataOf (Read (Value x)) s t = Writes (λ u. three_in u 0) (bits_of x, (0, 0)) 0 24 s t
-DataOf (Read (Vector v)) s t = Writes (λ u. three_in u 0) (bits_of v.x, (bits_of v.y, bits_of v.z)) 0 24 s t
-DataOf (Read (Boolean b)) s t = t ≡ s
+abbrev pub DataOf : Found Data → List ℕ → List ℕ → Type 0
+DataOf None s t = t ≡ s
+DataOf (Some (Value x)) s t = Writes (λ u. three_in u 0) (bits_of x, (0, 0)) 0 24 s t
+DataOf (Some (Vector v)) s t = Writes (λ u. three_in u 0) (bits_of v.x, (bits_of v.y, bits_of v.z)) 0 24 s t
+DataOf (Some (Boolean b)) s t = t ≡ s
 
 abbrev pub AskedOf : Asked → List ℕ → List ℕ → Type 0
 AskedOf (unread n u) s t = t ≡ s
@@ -77,10 +76,13 @@ of_kind (some c) = answered (type_name c) (input_count c + 1)
 -- ---- dw_parameter: the name, and 1 a value, 2 a vec3; 0 where there is none
 
 abbrev pub takes : DataType → ℕ
-takes TakesNothing = 0
 takes TakesValue = 1
 takes TakesVector = 2
 
+abbrev pub of_entry : Found Entry → Report
+of_entry None = plain 0
+of_entry (Some e) = answered e.0 (takes e.1)
+
 abbrev pub of_parameter : Option Component → ℕ → Report
 of_parameter none i = plain 0
-of_parameter (some c) i = answered (parameter_at c i).0 (takes (parameter_at c i).1)
+of_parameter (some c) i = of_entry (parameter_at c i)

@@ -2,36 +2,37 @@
 #![tactic(auto)]
 
 ghost use Rattle.std.specs.Prelude.{◌≡◌};
+ghost use Rattle.component_layout.specs.Components.{component_read};
 ghost use Rattle.opened.specs.Said.{Says};
 ghost use Rattle.showing_parameters.specs.Parameters.{read, parameter_in, ShowsParameter, kind_of, of_kind, takes, of_parameter};
 
-use component::model_component::{Reading, input_count};
+use component::model_component::Component;
 use component::parameter::{Data, DataType};
-use component_layout::component_words::{ComponentRead, component_from};
+use component_layout::component_numbers::ComponentWords;
+use component_layout::component_words::component_from;
 use float::bits::bits_of;
-use held::reading::{ComponentAnswer, get_component};
+use held::reading::get_component;
 use naming::{parameter, type_name};
 use opened::{opened, say, say_code};
 use parameter_reading::read_parameter;
 use rows::writing::write_three;
-use tag::tag_of;
+use tag::{Tag, tag_of};
 
 // Answers the data under a name: 1 a value, 2 a vec3, 0 where there is none.
-fn say_data(r: Reading, words: &mut [u8], out: &mut [u8]) -> u32
+fn say_data(r: Option<Data>, words: &mut [u8], out: &mut [u8]) -> u32
     ensures { ShowsParameter (read r) words.old words.new out.old out.new result }
 {
-    let Reading::Read(d) = r else {
+    let Some(d) = r else {
         return say_code(out, 0);
     };
-    let t = tag::empty_tag();
     match d {
         Data::Value(x) => {
             write_three(words, 0, bits_of(x), 0, 0);
-            say(out, 0, 0, t, 1)
+            say(out, 0, 0, Tag::default(), 1)
         }
         Data::Vec3(v) => {
             write_three(words, 0, bits_of(v.x), bits_of(v.y), bits_of(v.z));
-            say(out, 0, 0, t, 2)
+            say(out, 0, 0, Tag::default(), 2)
         }
         Data::Boolean(_) => say_code(out, 0),
     }
@@ -54,33 +55,41 @@ pub fn dw_read_parameter(
     if 32 < tag.len() {
         return say_code(out, 1);
     }
-    let m = d.model;
     let t = tag_of(tag);
-    let a = get_component(m, t);
-    let ComponentAnswer::Held(c) = a else {
+    let Some(c) = get_component(&d.model, t) else {
         return say(out, 12, 0, t, 0);
     };
-    let r = read_parameter(c, name);
-    say_data(r, words, out)
+    say_data(read_parameter(c, name), words, out)
+}
+
+// The component of a kind, whose numbers are 0.
+fn component_of_kind(kind: u64) -> Option<Component>
+    ensures { component_read result ≡ kind_of kind }
+{
+    component_from(ComponentWords {
+        kind,
+        a: 0,
+        b: 0,
+        c: 0,
+        d: 0,
+        e: 0,
+    })
 }
 
 // The name of a kind, and its count of inputs and 1.
 pub fn dw_type_name(kind: u64, out: &mut [u8]) -> u32
     ensures { Says (of_kind (kind_of kind)) out.old out.new result }
 {
-    let read = component_from(kind, 0, 0, 0, 0, 0);
-    let ComponentRead::Component(c) = read else {
+    let Some(c) = component_of_kind(kind) else {
         return say_code(out, 0);
     };
-    let t = type_name(c);
-    say(out, 0, 0, t, input_count(c) as u64 + 1)
+    say(out, 0, 0, type_name(c), c.input_count() as u64 + 1)
 }
 
 fn type_number(d: DataType) -> u64
     ensures { result ≡ takes d }
 {
     match d {
-        DataType::Nothing => 0,
         DataType::Value => 1,
         DataType::Vec3 => 2,
     }
@@ -90,12 +99,11 @@ fn type_number(d: DataType) -> u64
 pub fn dw_parameter(kind: u64, index: u64, out: &mut [u8]) -> u32
     ensures { Says (of_parameter (kind_of kind) index) out.old out.new result }
 {
-    let read = component_from(kind, 0, 0, 0, 0, 0);
-    let ComponentRead::Component(c) = read else {
+    let Some(c) = component_of_kind(kind) else {
         return say_code(out, 0);
     };
-    let p = parameter(c, index as usize);
-    let t = p.name;
-    let d = p.data_type;
-    say(out, 0, 0, t, type_number(d))
+    let Some(p) = parameter(c, index as usize) else {
+        return say_code(out, 0);
+    };
+    say(out, 0, 0, p.name, type_number(p.data_type))
 }

@@ -2,30 +2,22 @@
 ghost use Rattle.std.specs.Prelude.{◌≡◌, []};
 ghost use Rattle.tag.specs.View.{bytes_of};
 ghost use Rattle.model.specs.Edit.{refused, done as edit-done, made as edit-made};
-ghost use Rattle.model.specs.Answer.{answer_of};
+ghost use Rattle.model.specs.Answer.{refusal_of, answer_of};
 ghost use Rattle.evaluating.specs.Evaluate.{reply_of};
 ghost use Rattle.storing.specs.Steps.{Told, Replied, Written, Stored};
 
 use edit::Edited;
-use evaluating::evaluate::{Evaluating, Evaluation};
 use model::implicit_model::Model;
-use model::model_error::{Answer, Ending};
+use model::model_error::{Answer, Refusal};
 use model_writing::encode::encode;
-use report::{number_of, write_report};
+use report::write_report;
 use tag::Tag;
-
-fn wide(x: u32) -> u64
-    ensures { result ≡ x }
-{
-    x as u64
-}
 
 // The report of a call that is taken and has nothing more to say.
 pub fn tell_done(out: &mut [u8]) -> u32
     ensures { Told edit-done out.old out.new result }
 {
-    let none = tag::empty_tag();
-    write_report(out, 0, 0, none, 0);
+    write_report(out, 0, 0, Tag::default(), 0);
     0
 }
 
@@ -33,8 +25,7 @@ pub fn tell_done(out: &mut [u8]) -> u32
 pub fn tell_7(out: &mut [u8]) -> u32
     ensures { Told (refused 7 [] 0) out.old out.new result }
 {
-    let none = tag::empty_tag();
-    write_report(out, 7, 0, none, 0);
+    write_report(out, 7, 0, Tag::default(), 0);
     7
 }
 
@@ -46,49 +37,46 @@ pub fn tell_made(t: Tag, out: &mut [u8]) -> u32
     0
 }
 
+// Of a refusal, with the tag and the index that it carries.
+fn tell_refused(r: Refusal, out: &mut [u8]) -> u32
+    ensures { Told (refusal_of r) out.old out.new result }
+{
+    let code = u32::from(r.error);
+    write_report(out, u64::from(code), r.index as u64, r.tag, 0);
+    code
+}
+
 // Of an edit: only a refusal has an index, and only a tag that was made or that a refusal carries is reported.
 pub fn tell(a: Answer, out: &mut [u8]) -> u32
     ensures { Told (answer_of a) out.old out.new result }
 {
-    let ending = a.ending;
-    let t = a.tag;
-    match ending {
-        Ending::Done => tell_done(out),
-        Ending::Made => tell_made(t, out),
-        Ending::Refused(e) => {
-            let code = number_of(e);
-            write_report(out, wide(code), a.index as u64, t, 0);
-            code
-        }
+    match a {
+        Ok(None) => tell_done(out),
+        Ok(Some(t)) => tell_made(t, out),
+        Err(r) => tell_refused(r, out),
     }
 }
 
 // Of an asking: a number has no tag and no index to report.
-pub fn tell_reply(e: Evaluation, out: &mut [u8]) -> u32
-    ensures { Replied (reply_of e.answer (bytes_of e.tag) e.index) out.old out.new result }
+pub fn tell_reply(reply: Result<u64, Refusal>, out: &mut [u8]) -> u32
+    ensures { Replied (reply_of reply) out.old out.new result }
 {
-    let answer = e.answer;
-    match answer {
-        Evaluating::Number(bits) => {
-            let none = tag::empty_tag();
-            write_report(out, 0, 0, none, bits);
+    match reply {
+        Ok(bits) => {
+            write_report(out, 0, 0, Tag::default(), bits);
             0
         }
-        Evaluating::Refused(why) => {
-            let code = number_of(why);
-            let t = e.tag;
-            write_report(out, wide(code), e.index as u64, t, 0);
-            code
-        }
+        Err(r) => tell_refused(r, out),
     }
 }
 
 // Writes the model after a call that is taken.
+// Kept: the model by value, for a lent one doesn't show the sizes of its tables, which the clause tells.
 pub fn put_model(m: Model, code: u32, model: &mut [u8])
     ensures { Written m model.old model.new code }
 {
     if code == 0 {
-        encode(m, model);
+        encode(&m, model);
     }
 }
 
@@ -99,9 +87,7 @@ pub fn store(held: bool, r: Edited, model: &mut [u8], out: &mut [u8]) -> u32
     if !held {
         return tell_7(out);
     }
-    let a = r.answer;
-    let code = tell(a, out);
-    let m = r.model;
-    put_model(m, code, model);
+    let code = tell(r.answer, out);
+    put_model(r.model, code, model);
     code
 }

@@ -4,6 +4,7 @@ use mathlib.Core.Path.{◌≡◌, refl, sym, ap, subst, ◌∙◌}
 use mathlib.Core.Bool.{Bool, true, false, ◌&&◌, cond}
 use mathlib.Core.List.{List}
 use mathlib.Core.Option.{Option, none, some, get_or}
+use Rattle.std.specs.Prelude.{Some}
 use lib.Dec.{leb, eqb}
 use lib.ListN.{length}
 use borrow.Author.Tests.{le-leb, lt-leb, eq-eqb, ne_eqb, eqb-true, leb-true}
@@ -15,13 +16,11 @@ use Rattle.model.specs.View.{place_of, component_of, components_of, list_of, lis
 use Rattle.held.specs.Reading.{New}
 use Rattle.layout.specs.Words.{word}
 use Rattle.layout.specs.Some.{is_some}
-use Rattle.model_bytes.specs.declared.decode.Decoded.{Decoded}
 use Rattle.rows.specs.Rows.{place_in, rows_in}
 use Rattle.model_bytes.specs.ModelBytes.{headed, entry_row, list_row, joined, model_in}
-use Rattle.model_bytes.specs.Steps.{Read, Filled}
+use Rattle.model_bytes.specs.Steps.{Read, all_fit}
 use Rattle.model_bytes.specs.Calls.{Decodes}
 use Rattle.rows.proofs.Laws.Tests.{and_left, and_right, and_false}
-use Rattle.model_bytes.proofs.Laws.Reading.{found, filled}
 
 -- ---- the header
 
@@ -109,25 +108,27 @@ model_sized m p q r t u = rw (le-leb m.component_count 64 p, le-leb m.list_count
 
 -- ---- what is answered
 
-pub decodes_none : (s : List ℕ) (r : Decoded) → (r.ok ≡ false) × New r.model → model_in s ≡ none → Decodes s r
+module _ (s : List ℕ) (h : headed s ≡ true) where
+  pub model_read : (m : Record) → m.component_count ≡ word s 8 → m.list_count ≡ word s 16
+      → Read (rows component_of m.component_count) (all_fit entry_fits m.component_count) (rows_in (entry_row s) m.component_count) (Some m.components)
+      → Read (rows list_of m.list_count) (all_fit list_fits m.list_count) (rows_in (list_row s) m.list_count) (Some m.lists)
+      → Read place_of place_fits (place_in s 24) (Some m.default)
+      → Read view fits (model_in s) (Some m)
+  model_read m n k e l p =
+      let g = head s h in
+      (model_some s h m n k e.0 l.0 p.0, model_sized m (subst (λ (k : ℕ). k ≤ 64) (sym n) g.components) (subst (λ (k : ℕ). k ≤ 128) (sym k) g.lists) e.1 l.1 p.1)
+
+pub decodes_none : (s : List ℕ) (m : Record) → New m → model_in s ≡ none → Decodes s (record { ok = false; model = m })
 unfolding passes
-decodes_none s r n e = record {
-  answer = n.0 ∙ ap is_some (sym e);
-  holds = n.1.holds ∙ ap (λ (o : Option Model). get_or o new) (sym e);
-  sizes = and_left (fits r.model) (valid (view r.model)) n.1.passing;
+decodes_none s m n e = record {
+  answer = ap is_some (sym e);
+  holds = n.holds ∙ ap (λ (o : Option Model). get_or o new) (sym e);
+  sizes = and_left (fits m) (valid (view m)) n.passing;
 }
 
-module _ (s : List ℕ) (h : headed s ≡ true) {m : Record} where
-  pub decodes_some : m.component_count ≡ word s 8 → m.list_count ≡ word s 16
-      → {a b c : Bool} → Filled component_of entry_fits (rows_in (entry_row s) m.component_count) m.component_count a m.components → a ≡ true
-      → Filled list_of list_fits (rows_in (list_row s) m.list_count) m.list_count b m.lists → b ≡ true
-      → Read place_of place_fits (place_in s 24) c m.default → c ≡ true
-      → Decodes s (record { ok = true; model = m })
-  decodes_some n k e x l y p z =
-      let g = head s h in
-      let q = model_some s h m n k (filled e x) (filled l y) (found p z) in
-      record {
-        answer = ap is_some (sym q);
-        holds = ap (λ (o : Option Model). get_or o new) (sym q);
-        sizes = model_sized m (subst (λ (k : ℕ). k ≤ 64) (sym n) g.components) (subst (λ (k : ℕ). k ≤ 128) (sym k) g.lists) (e.sizes x) (l.sizes y) (p.sizes z);
-      }
+pub decodes_some : (s : List ℕ) (m : Record) → Read view fits (model_in s) (Some m) → Decodes s (record { ok = true; model = m })
+decodes_some s m r = record {
+  answer = ap is_some (sym r.0);
+  holds = ap (λ (o : Option Model). get_or o new) (sym r.0);
+  sizes = r.1;
+}

@@ -3,14 +3,15 @@ use Prim.Native.Nat.{ℕ, zero, suc, ◌+◌, ◌*◌, ◌-◌, ◌≤◌, ◌<�
 use mathlib.Core.Path.{◌≡◌, refl, sym, ap, subst, ◌∙◌}
 use mathlib.Core.Logic.{◌⊎◌, inl, inr}
 use mathlib.Core.Bool.{Bool, true, false, cond}
-use mathlib.Core.List.{List, [], ◌∷◌, ◌++◌}
-use mathlib.Core.Option.{Option, none, some, map}
+use mathlib.Core.List.{List}
+use mathlib.Core.Option.{Option as Maybe, none, some, map}
 use native.Mathlib.Nat.{eq-or-lt_of_le, le_of_suc-le-suc}
-use native.Mathlib.Numerals.{add-one}
 use native.Mathlib.Omega.{arith}
-use lib.ListN.{length, get_or, take, drop, set, length-drop}
-use lib.Seq.{take-suc, take-suc-set, take-take, get_or-drop}
+use lib.ListN.{length, take, drop, set}
+use lib.Seq.{take-take}
 use borrow.Author.Tests.{le-leb}
+use Rattle.std.specs.Prelude.{Option, Some, None}
+use Rattle.std.specs.Bool.{then_some}
 use Rattle.tag.specs.declared.Tag.{Tag as Label}
 use Rattle.tag.specs.Tags.{Tag}
 use Rattle.tag.specs.View.{bytes_of, tag_fits}
@@ -21,123 +22,83 @@ use Rattle.model.specs.View.{rows, every, place_of, place_fits, list_fits}
 use Rattle.held.proofs.Laws.Rows.{rows_more}
 use Rattle.layout.specs.Words.{word}
 use Rattle.rows.specs.Rows.{blank, text_in, tag_in, place_from, place_in, component_in, append, rows_in, place_row, places_in}
-use Rattle.rows.proofs.Laws.Tests.{apart, and_true, every_append}
+use Rattle.rows.proofs.Laws.Tests.{and_true, every_append}
 use Rattle.rows.proofs.Laws.Reading.{text_clean, rows_append, places-many, places_is}
 use Rattle.model_bytes.specs.ModelBytes.{both, entry_in, list_in}
-use Rattle.model_bytes.specs.Steps.{Read, Filled}
-
--- ---- bytes
-
-pub copy_more : (b s : List ℕ) (at j : ℕ) → j < length b → at + j < length s → take j b ≡ take j (drop at s) → take (j + 1) (set b j (get_or s (at + j) 0)) ≡ take (j + 1) (drop at s)
-copy_more b s at j hb hs e =
-    let h : j < length (drop at s) = simp length-drop (omega arith) in
-    rw add-one
-    (take-suc-set b j (get_or s (at + j) 0) hb
-    ∙ ap (λ (l : List ℕ). l ++ (get_or s (at + j) 0 ∷ [])) e
-    ∙ ap (λ (x : ℕ). take j (drop at s) ++ (x ∷ [])) (sym (get_or-drop at s j 0))
-    ∙ sym (take-suc (drop at s) j 0 h))
-
--- ---- what was read, or nothing
-
-module _ {A B : Type 0} {g : A → B} {sized : A → Bool} {there : Option B} {ok : Bool} {r : A} where
-  pub read_none : there ≡ none → ok ≡ false → Read g sized there ok r
-  read_none p q = record {
-    holds = ap (λ (b : Bool). cond b (some (g r)) none) q ∙ sym p;
-    sizes = λ t. absurd (apart t q);
-  }
-
-  pub read_some : there ≡ some (g r) → sized r ≡ true → ok ≡ true → Read g sized there ok r
-  read_some p q e = record { holds = ap (λ (b : Bool). cond b (some (g r)) none) e ∙ sym p; sizes = λ t. q }
-
-  pub missing : Read g sized there ok r → ok ≡ false → there ≡ none
-  missing h q = sym h.holds ∙ ap (λ (b : Bool). cond b (some (g r)) none) q
-
-  pub found : Read g sized there ok r → ok ≡ true → there ≡ some (g r)
-  found h q = sym h.holds ∙ ap (λ (b : Bool). cond b (some (g r)) none) q
+use Rattle.model_bytes.specs.Steps.{Read, all_fit}
 
 -- ---- tags
 
 module _ (n : ℕ) (s : List ℕ) (at : ℕ) where
-  pub text-read : {b : List ℕ} → n ≤ 32 → blank s (at + n) (32 - n) ≡ true → b ≡ take 32 (drop at s) → Read bytes_of tag_fits (text_in n s at) true (record { bytes = b; len = n })
+  pub text-read : {b : List ℕ} → n ≤ 32 → blank s (at + n) (32 - n) ≡ true → b ≡ take 32 (drop at s) → Read bytes_of tag_fits (text_in n s at) (Some (record { bytes = b; len = n }))
   unfolding bytes_of tag_fits
-  text-read {b} h e f = record {
-    holds = sym (text_clean n s at h e ∙ ap some (sym (ap (take n) f ∙ take-take n 32 (drop at s) h)));
-    sizes = λ t. le-leb n 32 h;
-  }
+  text-read {b} h e f = (text_clean n s at h e ∙ ap some (sym (ap (take n) f ∙ take-take n 32 (drop at s) h)), le-leb n 32 h)
 
-pub tag_read : (s : List ℕ) (at : ℕ) {n : ℕ} {ok : Bool} {t : Label} → n ≡ word s at → Read bytes_of tag_fits (text_in n s (at + 8)) ok t → Read bytes_of tag_fits (tag_in s at) ok t
+pub tag_read : (s : List ℕ) (at : ℕ) (t : Option Label) {n : ℕ} → n ≡ word s at → Read bytes_of tag_fits (text_in n s (at + 8)) t → Read bytes_of tag_fits (tag_in s at) t
 unfolding tag_in
-tag_read s at {n} {ok} {t} e h = subst (λ (k : ℕ). Read bytes_of tag_fits (text_in k s (at + 8)) ok t) e h
+tag_read s at t e h = subst (λ (k : ℕ). Read bytes_of tag_fits (text_in k s (at + 8)) t) e h
 
 -- ---- places
 
-module _ (s : List ℕ) (at : ℕ) {n : ℕ} {t : Label} {ok : Bool} (w : n ≡ word s at) where
-  pub place-blank : n ≡ 0 → ok ≡ blank s (at + 8) 32 → Read place_of place_fits (place_in s at) ok (record { assigned = false; tag = t })
+module _ (s : List ℕ) (at : ℕ) {n : ℕ} (w : n ≡ word s at) where
+  pub place-blank : n ≡ 0 → (b : Bool) → b ≡ blank s (at + 8) 32 → Read place_of place_fits (place_in s at) (then_some b None)
   unfolding place_in place_from place_of place_fits
-  place-blank e f = record {
-    holds = ap (λ (b : Bool). cond b (some none) none) f ∙ ap (λ (k : ℕ). place_from k s (at + 8)) (sym e ∙ w);
-    sizes = λ q. refl;
-  }
-
-  pub place-text : (n ≡ 0 → ⊥) → Read bytes_of tag_fits (text_in (n - 1) s (at + 8)) ok t → Read place_of place_fits (place_in s at) ok (record { assigned = true; tag = t })
-  unfolding place_in place_from place_of place_fits
-  place-text e h = record {
-    holds = inside ok ∙ ap (map some) h.holds ∙ ap (λ (k : ℕ). place_from k s (at + 8)) (let z : suc (n - 1) ≡ n = omega (arith, e) in z ∙ w);
-    sizes = h.sizes;
-  }
+  place-blank e b f = go b (sym (ap (λ (b : Bool). cond b (some none) none) f ∙ ap (λ (k : ℕ). place_from k s (at + 8)) (sym e ∙ w)))
     where
-      inside : (b : Bool) → cond b (some (some (bytes_of t))) none ≡ map some (cond b (some (bytes_of t)) none)
-      inside true = refl
-      inside false = refl
+      go : (b : Bool) → place_in s at ≡ cond b (some none) none → Read place_of place_fits (place_in s at) (then_some b None)
+      go true q = (q, refl)
+      go false q = q
+
+  module _ (some-bytes : n ≡ 0 → ⊥) where
+    from_text : {o : Maybe Tag} → text_in (n - 1) s (at + 8) ≡ o → place_in s at ≡ map some o
+    unfolding place_in place_from
+    from_text e = sym (ap (map some) (sym e) ∙ ap (λ (k : ℕ). place_from k s (at + 8)) (let z : suc (n - 1) ≡ n = omega (arith, some-bytes) in z ∙ w))
+
+    pub place-untold : text_in (n - 1) s (at + 8) ≡ none → place_in s at ≡ none
+    place-untold e = from_text e
+
+    pub place-text : (t : Label) → Read bytes_of tag_fits (text_in (n - 1) s (at + 8)) (Some t) → Read place_of place_fits (place_in s at) (Some (Some t))
+    unfolding place_of place_fits
+    place-text t h = (from_text h.0, h.1)
 
 -- ---- rows
 
-module _ {A : Type 0} (row : ℕ → Option A) where
+module _ {A : Type 0} (row : ℕ → Maybe A) where
   pub rows_none : (i n : ℕ) → i < n → row i ≡ none → rows_in row n ≡ none
   unfolding rows_in
   rows_none i zero h e = absurd (omega arith)
   rows_none i (suc n) h e = go (eq-or-lt_of_le (le_of_suc-le-suc h)) (λ l. rows_none i n l e)
     where
-      last : (o : Option (List A)) {x : Option A} → x ≡ none → append o x ≡ none
+      last : (o : Maybe (List A)) {x : Maybe A} → x ≡ none → append o x ≡ none
       last none q = refl
       last (some xs) q = ap (append (some xs)) q
 
       go : i ≡ n ⊎ i < n → (i < n → rows_in row n ≡ none) → append (rows_in row n) (row n) ≡ none
       go (inl q) r = last (rows_in row n) (ap row (sym q) ∙ e)
-      go (inr l) r = ap (λ (o : Option (List A)). append o (row n)) (r l)
+      go (inr l) r = ap (λ (o : Maybe (List A)). append o (row n)) (r l)
 
 -- the first i rows, read into a table
-pub record Sofar {A B : Type 0} (g : A → B) (sized : A → Bool) (row : ℕ → Option B) (i : ℕ) (table : List A) : Type 0 where
+pub record Sofar {A B : Type 0} (g : A → B) (sized : A → Bool) (row : ℕ → Maybe B) (i : ℕ) (table : List A) : Type 0 where
   pub holds : rows_in row i ≡ some (rows g i table)
   pub sizes : every (rows sized i table) ≡ true
 
-module _ {A B : Type 0} (g : A → B) (sized : A → Bool) (row : ℕ → Option B) where
+module _ {A B : Type 0} (g : A → B) (sized : A → Bool) (row : ℕ → Maybe B) where
   pub sofar_none : (table : List A) → Sofar g sized row 0 table
   unfolding rows rows_in
   sofar_none table = record { holds = refl; sizes = refl }
 
-  pub sofar_more : {i : ℕ} {table : List A} {ok : Bool} {x : A} → Sofar g sized row i table → i < length table → Read g sized (row i) ok x → ok ≡ true → Sofar g sized row (i + 1) (set table i x)
-  sofar_more {i} {table} {ok} {x} s h r e = record {
-    holds = rows_append row i s.holds (found r e) ∙ ap some (sym (rows_more g table i x h));
-    sizes = ap every (rows_more sized table i x h) ∙ every_append (rows sized i table) (sized x) ∙ and_true s.sizes (r.sizes e);
+  pub sofar_more : {i : ℕ} {table : List A} {x : A} → Sofar g sized row i table → i < length table → Read g sized (row i) (Some x) → Sofar g sized row (i + 1) (set table i x)
+  sofar_more {i} {table} {x} s h r = record {
+    holds = rows_append row i s.holds r.0 ∙ ap some (sym (rows_more g table i x h));
+    sizes = ap every (rows_more sized table i x h) ∙ every_append (rows sized i table) (sized x) ∙ and_true s.sizes r.1;
   }
 
-  pub sofar_stop : {i n : ℕ} {table : List A} {ok : Bool} {x : A} → i < n → Read g sized (row i) ok x → ok ≡ false → Filled g sized (rows_in row n) n false table
-  sofar_stop {i} {n} h r e = record { holds = sym (rows_none row i n h (missing r e)); sizes = λ t. absurd (apart t refl) }
-
-  pub sofar_all : {i n : ℕ} {table : List A} → Sofar g sized row i table → i ≡ n → Filled g sized (rows_in row n) n true table
-  sofar_all {i} {n} {table} s e = subst (λ (k : ℕ). Filled g sized (rows_in row k) k true table) e (record { holds = sym s.holds; sizes = λ t. s.sizes })
-
-module _ {A B : Type 0} {g : A → B} {sized : A → Bool} {there : Option (List B)} {n : ℕ} {ok : Bool} {table : List A} (f : Filled g sized there n ok table) where
-  pub unfilled : ok ≡ false → there ≡ none
-  unfilled e = sym f.holds ∙ ap (λ (b : Bool). cond b (some (rows g n table)) none) e
-
-  pub filled : ok ≡ true → there ≡ some (rows g n table)
-  filled e = sym f.holds ∙ ap (λ (b : Bool). cond b (some (rows g n table)) none) e
+  pub sofar_all : {i n : ℕ} {table : List A} → Sofar g sized row i table → i ≡ n → Read (rows g n) (all_fit sized n) (rows_in row n) (Some table)
+  sofar_all {i} {n} {table} s e = subst (λ (k : ℕ). Read (rows g k) (all_fit sized k) (rows_in row k) (Some table)) e (s.holds, s.sizes)
 
 -- ---- a row of each table
 
-pub both-none : {A B : Type 0} (a : Option A) {b : Option B} → b ≡ none → both a b ≡ none
+pub both-none : {A B : Type 0} (a : Maybe A) {b : Maybe B} → b ≡ none → both a b ≡ none
 both-none none e = refl
 both-none (some a) e = ap (both (some a)) e
 

@@ -8,9 +8,8 @@ use native.Mathlib.Omega.{arith}
 use lib.Dec.{eqb}
 use lib.ListN.{length}
 use borrow.Author.Tests.{le-leb, eq-eqb, ne_eqb}
-use Rattle.model.specs.declared.implicit_model.Place.{Place as PlaceRecord}
 use Rattle.model.specs.declared.implicit_model.Model.{Model as Record}
-use Rattle.model.specs.View.{place_of, components_of, lists_of, view, fits}
+use Rattle.model.specs.View.{PlaceRecord, place_of, components_of, lists_of, view, fits}
 use Rattle.layout.specs.Words.{word}
 use Rattle.layout.specs.Writing.{Kept}
 use Rattle.layout.proofs.Kept.{kept_then, agree_below}

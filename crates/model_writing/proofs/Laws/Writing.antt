@@ -1,17 +1,18 @@
 -- Rows of the tables that are written one after another. Assumes nothing.
 use Prim.Native.Nat.{ℕ, zero, suc, ◌+◌, ◌*◌, ◌≤◌, ◌<◌, min}
-use mathlib.Core.Path.{◌≡◌, refl, sym, ap, ◌∙◌}
+use mathlib.Core.Path.{◌≡◌, refl, sym, ap, subst, ◌∙◌}
 use mathlib.Core.Bool.{Bool, true}
-use mathlib.Core.List.{List, [], ◌∷◌}
-use mathlib.Core.Option.{some}
+use mathlib.Core.List.{List, [], ◌∷◌, map}
+use mathlib.Core.Option.{Option, some}
 use native.Mathlib.Nat.{not-suc-le-zero, le_of_suc-le-suc}
 use native.Mathlib.Omega.{arith}
-use lib.ListN.{length, get_or}
+use lib.ListN.{length, get_or, take}
+use lib.Seq.{take-length}
 use Rattle.tag.specs.View.{bytes_of}
 use Rattle.model.specs.declared.implicit_model.ComponentEntry.{ComponentEntry}
 use Rattle.model.specs.declared.implicit_model.InputList.{InputList}
 use Rattle.model.specs.View.{rows, every, component_of, list_of}
-use Rattle.held.proofs.Laws.Rows.{no_entry, no_list, rows-length, rows_at}
+use Rattle.held.proofs.Laws.Rows.{no_entry, no_list}
 use Rattle.layout.specs.Words.{word}
 use Rattle.layout.proofs.Kept.{kept_then, agree_below}
 use Rattle.rows.specs.Rows.{tag_in, component_in, rows_in, places_in, places_of}
@@ -49,15 +50,26 @@ lists-more ls h p q =
     rows-wrote-more list_of list_row 5696 168 (λ k. 5696 + 168 * k) (λ k i h. omega arith) (λ s t k a. list_local a) _ ls no_list h refl (omega arith) p q
 
 -- a test that every row passes, one row passes
-pub row_fits : {A : Type 0} (f : A → Bool) (table : List A) (n i : ℕ) (d : A) → i < n → i < length table → every (rows f n table) ≡ true → f (get_or table i d) ≡ true
-row_fits f table n i d h l e =
-    let k : i < length (rows f n table) = omega (arith, rows-length f table n) in
-    every_at (rows f n table) i k (rows_at f table n i d k) e
-  where
-    every_at : (bs : List Bool) (i : ℕ) {b : Bool} → i < length bs → get_or bs i (f d) ≡ b → every bs ≡ true → b ≡ true
-    every_at [] i h p q = absurd (not-suc-le-zero h)
-    every_at (b ∷ bs) zero h p q = sym p ∙ and_left b (every bs) q
-    every_at (b ∷ bs) (suc i) h p q = every_at bs i (le_of_suc-le-suc h) p (and_right b (every bs) q)
+pub row_fits : {A : Type 0} (f : A → Bool) (table : List A) (i : ℕ) (d : A) → i < length table → every (map f table) ≡ true → f (get_or table i d) ≡ true
+row_fits f [] i d h e = absurd (not-suc-le-zero h)
+row_fits f (x ∷ xs) zero d h e = and_left (f x) (every (map f xs)) e
+row_fits f (x ∷ xs) (suc i) d h e = row_fits f xs i d (le_of_suc-le-suc h) (and_right (f x) (every (map f xs)) e)
+
+-- all rows of a slice, and those of the table whose live rows it is
+module _ {A B : Type 0} (g : A → B) (row : List ℕ → ℕ → Option B) (base width : ℕ) where
+  pub all_wrote : (es : List A) {s t : List ℕ} {i : ℕ} → i ≡ length es → Wrote (λ u. rows_in (row u) i) (some (rows g i es)) base (width * i) s t
+      → Wrote (λ u. rows_in (row u) (length es)) (some (map g es)) base (width * length es) s t
+  unfolding rows
+  all_wrote es {s} {t} e w =
+      subst (λ (xs : List A). Wrote (λ u. rows_in (row u) (length es)) (some (map g xs)) base (width * length es) s t) (take-length es)
+      (subst (λ (k : ℕ). Wrote (λ u. rows_in (row u) k) (some (rows g k es)) base (width * k) s t) e w)
+
+  pub live_wrote : (n : ℕ) (table : List A) {es : List A} {s t : List ℕ} → es ≡ take n table → length es ≡ n
+      → Wrote (λ u. rows_in (row u) (length es)) (some (map g es)) base (width * length es) s t → Wrote (λ u. rows_in (row u) n) (some (rows g n table)) base (width * n) s t
+  unfolding rows
+  live_wrote n table {es} {s} {t} e l w =
+      subst (λ (xs : List A). Wrote (λ u. rows_in (row u) n) (some (map g xs)) base (width * n) s t) e
+      (subst (λ (k : ℕ). Wrote (λ u. rows_in (row u) k) (some (map g es)) base (width * k) s t) l w)
 
 -- ---- lists
 

@@ -1,7 +1,6 @@
 -- `is_blank` meets its contract. Assumes nothing.
 use Prim.Native.Nat.{◌-◌}
 use mathlib.Core.Path.{◌≡◌, sym, ap}
-use mathlib.Core.Bool.{true}
 use native.Mathlib.Omega.{arith}
 use Rattle.rows.specs.Rows.{blank}
 use Rattle.row_reading.proofs.Laws.{blank-next, blank-stop, blank_rest}
@@ -9,14 +8,13 @@ use Rattle.row_reading.proofs.is_blank.Goals as goal
 
 pub loop-i-init : goal.loop-i-init
 unfolding blank
-loop-i-init c =
-    (omega arith, ap (blank c.args.s.now c.args.start) (let z : c.args.start - c.args.start ≡ 0 = omega arith in z))
+loop-i-init c = ap (blank c.args.s.now c.args.start) (let z : c.args.start - c.args.start ≡ 0 = omega arith in z)
 
 pub returns-then-s-i-ne0 : goal.returns-then-s-i-ne0
 returns-then-s-i-ne0 c = sym (blank-stop _ _ c.loop-i.i (omega arith) _ (omega arith) c.if-s-i-ne0.true)
 
 pub loop-i-preserved : goal.loop-i-preserved
-loop-i-preserved c = (omega arith, blank-next _ _ c.loop-i.i (omega arith) c.loop-i.invariant.1 c.if-s-i-ne0.false)
+loop-i-preserved c = blank-next _ _ c.loop-i.i (omega arith) c.loop-i.invariant c.if-s-i-ne0.false
 
 pub returns : goal.returns
-returns c = sym (blank_rest _ _ c.loop-i.i c.loop-i.invariant.0 _ (omega arith) c.loop-i.invariant.1)
+returns c = sym (blank_rest _ _ c.loop-i.i (omega arith) _ (omega arith) c.loop-i.invariant)

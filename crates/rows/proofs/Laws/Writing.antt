@@ -1,77 +1,64 @@
 -- What is written at a place, and rows that are written one after another. Assumes nothing.
-use Prim.Native.Nat.{ℕ, ◌+◌, ◌*◌, ◌-◌, ◌≤◌, ◌<◌, min}
+use Prim.Native.Nat.{ℕ, zero, suc, ◌+◌, ◌*◌, ◌-◌, ◌≤◌, ◌<◌, min}
 use mathlib.Core.Path.{◌≡◌, refl, sym, ap, subst, ◌∙◌}
 use mathlib.Core.Bool.{Bool, true, false, cond}
-use mathlib.Core.List.{List, [], ◌∷◌, ◌++◌}
+use mathlib.Core.List.{List, [], ◌∷◌, ◌++◌, map as mapped}
 use mathlib.Core.Option.{Option, none, some, map}
 use native.Mathlib.Numerals.{add-one}
 use native.Mathlib.Omega.{arith}
-use lib.ListN.{length, get_or, take, drop, set, length-set, length-drop}
-use lib.Seq.{take-suc, get_or-drop, get_or-set_same, get_or-set_other, set-get_or, take-length}
+use lib.ListN.{length, get_or, take, drop, set, replicate, get_or-replicate}
+use lib.Seq.{take_at, drop_at, drop-drop, length-take-le, get_or-drop, get_or-take, set-get_or, take-length}
+use borrow.Rule.Slice.PartMut.{put_mid}
 use borrow.Author.Tests.{eq-eqb}
 use Rattle.tag.specs.declared.Tag.{Tag as Label}
 use Rattle.tag.specs.View.{bytes_of}
 use Rattle.tag.proofs.Laws.View.{bytes_of-clamped}
 use Rattle.component.specs.declared.model_component.Component.{Component}
-use Rattle.model.specs.declared.implicit_model.Place.{Place as PlaceRecord}
 use Rattle.model.specs.declared.implicit_model.InputList.{InputList}
-use Rattle.model.specs.View.{rows, place_of}
+use Rattle.model.specs.View.{PlaceRecord, rows, place_of}
 use Rattle.held.specs.Search.{Live}
 use Rattle.held.proofs.Laws.Rows.{no_place, rows_less, rows_more}
 use Rattle.layout.specs.Words.{word}
-use Rattle.layout.specs.Writing.{Kept, put_word}
-use Rattle.component_layout.specs.declared.component_numbers.ComponentWords.{ComponentWords}
+use Rattle.layout.specs.Writing.{Kept, put, put_word}
+use Rattle.component_layout.specs.declared.component_numbers.Numbered.{Numbered}
 use Rattle.component_layout.specs.Numbers.{Worded}
-use Rattle.layout.proofs.Put.{word_kept, word_back}
+use Rattle.layout.proofs.Put.{put-kept, word_kept, word_back}
 use Rattle.layout.proofs.Kept.{kept-none, kept_then, Agree, agree_below, word_same, bytes_same}
 use Rattle.rows.specs.Rows.{blank, text_in, tag_in, place_from, place_in, six_in, same_words, spelled, component_of_words, component_in, rows_in, place_row, places_in, places_of, three_in}
 use Rattle.rows.specs.Written.{Wrote, Writes}
-use Rattle.rows.proofs.Laws.Reading.{blank-more, text_clean, rows_append, places_is}
-use Rattle.rows.proofs.Laws.Local.{blank_local, place_local, rows_local}
+use Rattle.rows.proofs.Laws.Reading.{text_clean, rows_append, places_is}
+use Rattle.rows.proofs.Laws.Local.{place_local, rows_local}
 
--- ---- a byte after others
+-- ---- a part of the bytes overwritten
 
-module _ {s t : List ℕ} {at i : ℕ} (x : ℕ) (k : Kept s t at i) (h : at + i < length s) where
-  pub kept_more : Kept s (set t (at + i) x) at (i + 1)
-  kept_more = record {
-    size = length-set t (at + i) x ∙ k.size;
-    below = λ j l. get_or-set_other t (at + i) j x 0 (λ e. let z : ⊥ = omega arith in z) ∙ k.below j l;
-    above = λ j l. get_or-set_other t (at + i) j x 0 (λ e. let z : ⊥ = omega arith in z) ∙ k.above j (omega arith);
+module _ (s vs : List ℕ) (at n : ℕ) {t : List ℕ} {k : ℕ} (room : at + n ≤ length s) (size : length vs ≡ n) (wide : k ≡ n) (part : t ≡ put_mid at k s vs) where
+  put_there : t ≡ put s at vs
+  unfolding put
+  put_there = part ∙ rw (wide, size, drop-drop n at s)
+
+  pub copied : Wrote (λ u. take n (drop at u)) vs at n s t
+  unfolding put
+  copied = record {
+    kept = rw (put_there, ← size) (put-kept s at vs (omega arith));
+    holds =
+        ap (λ (u : List ℕ). take n (drop at u)) put_there
+        ∙ ap (take n) (drop_at (take at s) (vs ++ drop (at + length vs) s) at (length-take-le at s (omega arith)))
+        ∙ take_at vs (drop (at + length vs) s) n size;
   }
 
-  set_here : get_or (set t (at + i) x) (at + i) 0 ≡ x
-  set_here = get_or-set_same t (at + i) x 0 (omega (arith, k.size))
+  byte_there : (j : ℕ) → j < n → get_or t (at + j) 0 ≡ get_or vs j 0
+  byte_there j h = sym (get_or-drop at t j 0) ∙ sym (get_or-take n (drop at t) j 0 h) ∙ ap (λ (u : List ℕ). get_or u j 0) copied.holds
 
-  set_agree : Agree t (set t (at + i) x) at i
-  set_agree = record { size = length-set t (at + i) x; same = λ j a b. get_or-set_other t (at + i) j x 0 (λ e. let z : ⊥ = omega arith in z) }
-
-pub clear_none : (s : List ℕ) (at : ℕ) → Wrote (λ t. blank t at 0) true at 0 s s
+zeros_blank : (u : List ℕ) (at n : ℕ) → ((j : ℕ) → j < n → get_or u (at + j) 0 ≡ 0) → blank u at n ≡ true
 unfolding blank
-clear_none s at = record { kept = kept-none s at 0; holds = refl }
+zeros_blank u at zero h = refl
+zeros_blank u at (suc n) h = rw (zeros_blank u at n (λ j l. h j (omega arith)), eq-eqb (get_or u (at + n) 0) 0 (h n (omega arith)))
 
-pub clear-more : {s t : List ℕ} {at i : ℕ} → Wrote (λ u. blank u at i) true at i s t → at + i < length s → Wrote (λ u. blank u at (i + 1)) true at (i + 1) s (set t (at + i) 0)
-clear-more {s} {t} {at} {i} w h = record {
-  kept = kept_more 0 w.kept h;
-  holds = blank-more (set t (at + i) 0) at i (blank_local i (set_agree 0 w.kept h) ∙ w.holds) (set_here 0 w.kept h);
+pub cleared : (s vs : List ℕ) (at n : ℕ) {t : List ℕ} {k : ℕ} → at + n ≤ length s → length vs ≡ n → k ≡ n → vs ≡ replicate n 0 → t ≡ put_mid at k s vs → Wrote (λ u. blank u at n) true at n s t
+cleared s vs at n room size wide zeros part = record {
+  kept = (copied s vs at n room size wide part).kept;
+  holds = zeros_blank _ at n (λ j h. byte_there s vs at n room size wide part j h ∙ ap (λ (u : List ℕ). get_or u j 0) zeros ∙ get_or-replicate n j 0 0 h);
 }
-
-pub copy_none : (s b : List ℕ) (at : ℕ) → Wrote (λ t. take 0 (drop at t)) (take 0 b) at 0 s s
-copy_none s b at = record { kept = kept-none s at 0; holds = refl }
-
-pub copied_more : (b : List ℕ) {s t : List ℕ} {at i : ℕ} → Wrote (λ u. take i (drop at u)) (take i b) at i s t → at + i < length s → i < length b
-    → Wrote (λ u. take (i + 1) (drop at u)) (take (i + 1) b) at (i + 1) s (set t (at + i) (get_or b i 0))
-copied_more b {s} {t} {at} {i} w h l =
-    let u = set t (at + i) (get_or b i 0) in
-    let g : i < length (drop at u) = simp (length-drop, length-set) (omega (arith, w.kept.size)) in
-    record {
-      kept = kept_more (get_or b i 0) w.kept h;
-      holds =
-          rw add-one
-          (take-suc (drop at u) i 0 g
-          ∙ ap (λ (x : ℕ). take i (drop at u) ++ (x ∷ [])) (get_or-drop at u i 0 ∙ set_here (get_or b i 0) w.kept h)
-          ∙ ap (λ (y : List ℕ). y ++ (get_or b i 0 ∷ [])) (bytes_same (set_agree (get_or b i 0) w.kept h) ∙ w.holds)
-          ∙ sym (take-suc b i 0 l));
-    }
 
 -- ---- one after another
 
@@ -88,55 +75,48 @@ word-stays at k h e = word_same (agree_below at 8 k h) ∙ e
 
 -- ---- tags
 
-module _ (l : Label) {n at : ℕ} {s t u : List ℕ} (clamped : n ≡ min l.len 32) where
-  pub text-wrote : length l.bytes ≡ 32 → Wrote (λ v. take n (drop at v)) (take n l.bytes) at n s t → Wrote (λ v. blank v (at + n) (32 - n)) true (at + n) (32 - n) t u
-      → Wrote (λ v. text_in n v at) (some (bytes_of l)) at 32 s u
-  text-wrote size p q = record {
+module _ {b : List ℕ} {at : ℕ} {s t u : List ℕ} where
+  pub text-wrote : length b ≤ 32 → Wrote (λ v. take (length b) (drop at v)) b at (length b) s t → Wrote (λ v. blank v (at + length b) (32 - length b)) true (at + length b) (32 - length b) t u
+      → Wrote (λ v. text_in (length b) v at) (some b) at 32 s u
+  text-wrote short p q = record {
     kept = both-kept p q at 32 (omega arith) (omega arith) (omega arith) (omega arith);
-    holds =
-        text_clean n u at (omega arith) q.holds
-        ∙ ap some (bytes_same (agree_below at n q.kept (omega arith)) ∙ p.holds ∙ bytes_of-clamped l size n clamped);
+    holds = text_clean (length b) u at short q.holds ∙ ap some (bytes_same (agree_below at (length b) q.kept (omega arith)) ∙ p.holds);
   }
 
-  pub tag_wrote : Wrote (λ v. word v at) n at 8 s t → Wrote (λ v. text_in n v (at + 8)) (some (bytes_of l)) (at + 8) 32 t u
-      → Wrote (λ v. tag_in v at) (some (bytes_of l)) at 40 s u
+  pub tag_wrote : Wrote (λ v. word v at) (length b) at 8 s t → Wrote (λ v. text_in (length b) v (at + 8)) (some b) (at + 8) 32 t u
+      → Wrote (λ v. tag_in v at) (some b) at 40 s u
   unfolding tag_in
   tag_wrote p q = record {
     kept = both-kept p q at 40 (omega arith) (omega arith) (omega arith) (omega arith);
     holds = ap (λ (k : ℕ). text_in k u (at + 8)) (word-stays at q.kept (omega arith) p.holds) ∙ q.holds;
   }
 
--- ---- places
+  -- ---- places
 
-module _ (p : PlaceRecord) {at : ℕ} {s t u : List ℕ} where
-  pub place-wrote : (n : ℕ) → p.assigned ≡ true → Wrote (λ v. word v at) (n + 1) at 8 s t → Wrote (λ v. text_in n v (at + 8)) (some (bytes_of p.tag)) (at + 8) 32 t u
-      → Wrote (λ v. place_in v at) (some (place_of p)) at 40 s u
-  unfolding place_in place_from place_of
-  place-wrote n e q r = record {
+  pub place-wrote : Wrote (λ v. word v at) (length b + 1) at 8 s t → Wrote (λ v. text_in (length b) v (at + 8)) (some b) (at + 8) 32 t u
+      → Wrote (λ v. place_in v at) (some (some b)) at 40 s u
+  unfolding place_in place_from
+  place-wrote q r = record {
     kept = both-kept q r at 40 (omega arith) (omega arith) (omega arith) (omega arith);
-    holds =
-        ap (λ (k : ℕ). place_from k u (at + 8)) (word-stays at r.kept (omega arith) q.holds ∙ add-one n)
-        ∙ ap (map some) r.holds
-        ∙ ap (λ (b : Bool). some (cond b (some (bytes_of p.tag)) none)) (sym e);
+    holds = ap (λ (k : ℕ). place_from k u (at + 8)) (word-stays at r.kept (omega arith) q.holds ∙ add-one (length b)) ∙ ap (map some) r.holds;
   }
 
-  pub unassigned_wrote : p.assigned ≡ false → Wrote (λ v. word v at) 0 at 8 s t → Wrote (λ v. blank v (at + 8) 32) true (at + 8) 32 t u → Wrote (λ v. place_in v at) (some (place_of p)) at 40 s u
-  unfolding place_in place_from place_of
-  unassigned_wrote e q r = record {
-    kept = both-kept q r at 40 (omega arith) (omega arith) (omega arith) (omega arith);
-    holds =
-        ap (λ (n : ℕ). place_from n u (at + 8)) (word-stays at r.kept (omega arith) q.holds)
-        ∙ ap (λ (b : Bool). cond b (some none) none) r.holds
-        ∙ ap (λ (b : Bool). some (cond b (some (bytes_of p.tag)) none)) (sym e);
-  }
+pub unassigned_wrote : {at : ℕ} {s t u : List ℕ} → Wrote (λ v. word v at) 0 at 8 s t → Wrote (λ v. blank v (at + 8) 32) true (at + 8) 32 t u → Wrote (λ v. place_in v at) (some none) at 40 s u
+unfolding place_in place_from
+unassigned_wrote {at} {u = u} q r = record {
+  kept = both-kept q r at 40 (omega arith) (omega arith) (omega arith) (omega arith);
+  holds =
+      ap (λ (n : ℕ). place_from n u (at + 8)) (word-stays at r.kept (omega arith) q.holds)
+      ∙ ap (λ (b : Bool). cond b (some none) none) r.holds;
+}
 
 -- ---- components
 
-same_self : (w : ComponentWords) → same_words w w ≡ true
+same_self : (w : Numbered ℕ) → same_words w w ≡ true
 unfolding same_words
 same_self w = rw (eq-eqb w.kind w.kind refl, eq-eqb w.a w.a refl, eq-eqb w.b w.b refl, eq-eqb w.c w.c refl, eq-eqb w.d w.d refl, eq-eqb w.e w.e refl)
 
-module _ (w : ComponentWords) {at : ℕ} {s t u v x y z : List ℕ} where
+module _ (w : Numbered ℕ) {at : ℕ} {s t u v x y z : List ℕ} where
   pub six_wrote : Wrote (λ v. word v at) w.kind at 8 s t → Wrote (λ v. word v (at + 8)) w.a (at + 8) 8 t u → Wrote (λ v. word v (at + 16)) w.b (at + 16) 8 u v
       → Wrote (λ v. word v (at + 24)) w.c (at + 24) 8 v x → Wrote (λ v. word v (at + 32)) w.d (at + 32) 8 x y → Wrote (λ v. word v (at + 40)) w.e (at + 40) 8 y z
       → Wrote (λ v. six_in v at) w at 48 s z
@@ -162,14 +142,14 @@ module _ {a b c at : ℕ} {s t u v : List ℕ} where
         holds = rw (word-stays at qr (omega arith) p.holds, word-stays (at + 8) r.kept (omega arith) q.holds, r.holds);
       }
 
-pub component-wrote : (c : Component) {w : ComponentWords} {at : ℕ} {s t : List ℕ} → Worded c w → Wrote (λ v. six_in v at) w at 48 s t → Wrote (λ v. component_in v at) (some c) at 48 s t
+pub component-wrote : (c : Component) {w : Numbered ℕ} {at : ℕ} {s t : List ℕ} → Worded c w → Wrote (λ v. six_in v at) w at 48 s t → Wrote (λ v. component_in v at) (some c) at 48 s t
 unfolding component_in
 component-wrote c {w} {at} {s} {t} p q = record {
   kept = q.kept;
   holds =
       ap component_of_words q.holds
       ∙ ap (spelled w) p.back
-      ∙ ap (λ (v : ComponentWords). cond (same_words v w) (some c) none) (sym p.words)
+      ∙ ap (λ (v : Numbered ℕ). cond (same_words v w) (some c) none) (sym p.words)
       ∙ ap (λ (b : Bool). cond b (some c) none) (same_self w);
 }
 
@@ -208,23 +188,19 @@ module _ (at : ℕ) where
 
 -- ---- the places of a list
 
--- a count past the table's size counts as the size
-pub rows-clamped : {A B : Type 0} (g : A → B) (table : List A) (count n cap : ℕ) → Live (rows g count table) count cap n → rows g n table ≡ rows g count table
-rows-clamped g table count n cap l =
-    rows_less g table count n (omega (arith, l.bound)) ∙ ap (λ (k : ℕ). take k (rows g count table)) l.live ∙ take-length (rows g count table)
-
-module _ (l : InputList) {n at : ℕ} {s t u : List ℕ} (live : Live (places_of l.count l) l.count 3 n) where
-  pub three_wrote : Wrote (λ x. rows_in (place_row x at) n) (some (places_of n l)) at (40 * n) s t
-      → Wrote (λ x. blank x (at + 40 * n) (40 * (3 - n))) true (at + 40 * n) (40 * (3 - n)) t u
+module _ (l : InputList) {ps : List PlaceRecord} {at : ℕ} {s t u : List ℕ} (live : ps ≡ take l.count l.places) (bound : length ps ≡ min l.count 3) where
+  pub three_wrote : Wrote (λ x. rows_in (place_row x at) (length ps)) (some (mapped place_of ps)) at (40 * length ps) s t
+      → Wrote (λ x. blank x (at + 40 * length ps) (40 * (3 - length ps))) true (at + 40 * length ps) (40 * (3 - length ps)) t u
       → Wrote (λ x. places_in (min l.count 3) x at) (some (places_of l.count l)) at 120 s u
+  unfolding rows
   three_wrote r c = record {
-    kept = both-kept r c at 120 (omega arith) (omega (arith, live.bound)) (omega arith) (omega (arith, live.bound));
+    kept = both-kept r c at 120 (omega arith) (omega arith) (omega arith) (omega arith);
     holds =
-        ap (λ (k : ℕ). places_in k u at) (sym live.bound)
-        ∙ places_is n u at (omega (arith, live.bound)) c.holds
-        ∙ rows_local (place_row t at) (place_row u at) n (λ k h. place_local (agree_below (at + 40 * k) 40 c.kept (omega arith)))
+        ap (λ (k : ℕ). places_in k u at) (sym bound)
+        ∙ places_is (length ps) u at (omega arith) c.holds
+        ∙ rows_local (place_row t at) (place_row u at) (length ps) (λ k h. place_local (agree_below (at + 40 * k) 40 c.kept (omega arith)))
         ∙ r.holds
-        ∙ ap some (rows-clamped place_of l.places l.count n 3 live);
+        ∙ ap (λ (qs : List PlaceRecord). some (mapped place_of qs)) live;
   }
 
 -- ---- where there is room

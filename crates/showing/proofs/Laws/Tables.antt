@@ -4,20 +4,20 @@ use mathlib.Core.Path.{◌≡◌, refl, sym, ap, subst, ◌∙◌}
 use mathlib.Core.Bool.{Bool, true, false, cond}
 use mathlib.Core.List.{List}
 use mathlib.Core.Option.{Option, none, some}
-use lib.ListN.{length, get_elem?}
+use lib.ListN.{length, take, get_elem?}
+use Rattle.std.proofs.lemmas.List.{length-map}
 use borrow.Author.Tests.{lt-ltb, le-ltb}
 use Rattle.tag.specs.declared.Tag.{Tag as Label}
 use Rattle.tag.specs.Tags.{Tag, overlong}
 use Rattle.tag.specs.View.{bytes_of}
 use Rattle.component.specs.declared.model_component.Component.{Component}
-use Rattle.model.specs.declared.implicit_model.Place.{Place as PlaceRecord}
-use Rattle.held.specs.declared.reading.EntryAnswer.{EntryAnswer}
-use Rattle.held.specs.declared.reading.ListAnswer.{ListAnswer}
+use Rattle.std.specs.Prelude.{Option as Found, Some, None}
+use Rattle.model.specs.declared.implicit_model.ComponentEntry.{ComponentEntry}
+use Rattle.model.specs.declared.implicit_model.InputList.{InputList}
 use Rattle.model.specs.Model.{Place, Model, component, list}
-use Rattle.model.specs.View.{place_of, component_of, list_of, view}
+use Rattle.model.specs.View.{PlaceRecord, place_of, rows, list_of, view}
 use Rattle.held.specs.Reading.{entry_read, list_read, places_read}
-use Rattle.held.specs.Search.{Live}
-use Rattle.rows.specs.Rows.{component_in, places_in}
+use Rattle.rows.specs.Rows.{component_in, places_in, places_of}
 use Rattle.rows.specs.Written.{Writes}
 use Rattle.model_bytes.specs.declared.decode.Decoded.{Decoded}
 use Rattle.opened.specs.Said.{held_in, plain, answered, Says, Opens}
@@ -45,13 +45,16 @@ module _ {words out after : List ℕ} {code : ℕ} where
     pub list-nothing : nothing ≡ f → Says (plain 0) out after code → ShowsList f words words out after code
     list-nothing e q = subst (λ (g : Finding (List Place)). ShowsList g words words out after code) e (record { shown = refl; says = q })
 
-    pub list-shown : {placed : List ℕ} (u : Tag) (ps : List Place) {count n : ℕ} → held u ps ≡ f → Live ps count 3 n → Writes (λ v. places_in (min count 3) v 0) (some ps) 0 120 words placed
-        → Says (answered u (n + 1)) out after code → ShowsList f words placed out after code
-    list-shown {placed} u ps {count} {n} e l w q =
+    pub list-shown : {placed : List ℕ} (u : Tag) (l : InputList) {live : List PlaceRecord} → held u (list_of l).1 ≡ f → live ≡ take l.count l.places → length live ≡ min l.count 3
+        → Writes (λ v. places_in (min l.count 3) v 0) (some (places_of l.count l)) 0 120 words placed → Says (answered u (length live + 1)) out after code → ShowsList f words placed out after code
+    unfolding rows
+    list-shown {placed} u l e rows bound w q =
+        let ps = places_of l.count l in
+        let live = ap length rows ∙ sym (length-map (take l.count l.places) place_of) in
         subst (λ (g : Finding (List Place)). ShowsList g words placed out after code) e
         (record {
-          shown = subst (λ (k : ℕ). Writes (λ v. places_in k v 0) (some ps) 0 120 words placed) (sym l.bound ∙ l.live) w;
-          says = says_as q (ap (λ (k : ℕ). answered u (k + 1)) l.live);
+          shown = subst (λ (k : ℕ). Writes (λ v. places_in k v 0) (some ps) 0 120 words placed) (sym bound ∙ live) w;
+          says = says_as q (ap (λ (k : ℕ). answered u (k + 1)) live);
         })
 
 -- ---- what a reading found
@@ -89,29 +92,21 @@ module _ {s : List ℕ} {d : Decoded} (x : Opens s d) where
   -- ---- by position
 
   module _ (i : ℕ) (e : d.ok ≡ true) where
-    pub entry-held : (a : EntryAnswer) → entry_read a ≡ get_elem? (view d.model).components i → a.held ≡ true → held (bytes_of a.entry.tag) a.entry.component ≡ component_at s i
+    pub entry-held : {a : Found ComponentEntry} {r : ComponentEntry} → a ≡ Some r → entry_read a ≡ get_elem? (view d.model).components i → held (bytes_of r.tag) r.component ≡ component_at s i
     unfolding entry_read
-    entry-held a q h =
-        at_open (λ m. at_position (get_elem? m.components i)) e
-        (ap at_position (ap (λ (b : Bool). cond b (some (component_of a.entry)) none) (sym h) ∙ q))
+    entry-held h q = at_open (λ m. at_position (get_elem? m.components i)) e (ap at_position (ap entry_read (sym h) ∙ q))
 
-    pub entry-nothing : (a : EntryAnswer) → entry_read a ≡ get_elem? (view d.model).components i → a.held ≡ false → nothing ≡ component_at s i
+    pub entry-nothing : {a : Found ComponentEntry} → a ≡ None → entry_read a ≡ get_elem? (view d.model).components i → nothing ≡ component_at s i
     unfolding entry_read
-    entry-nothing a q h =
-        at_open (λ m. at_position (get_elem? m.components i)) e
-        (ap at_position (ap (λ (b : Bool). cond b (some (component_of a.entry)) none) (sym h) ∙ q))
+    entry-nothing h q = at_open (λ m. at_position (get_elem? m.components i)) e (ap at_position (ap entry_read (sym h) ∙ q))
 
-    pub list_held : (a : ListAnswer) → list_read a ≡ get_elem? (view d.model).lists i → a.held ≡ true → held (bytes_of a.list.tag) (list_of a.list).1 ≡ list_place_at s i
+    pub list_held : {a : Found InputList} {l : InputList} → a ≡ Some l → list_read a ≡ get_elem? (view d.model).lists i → held (bytes_of l.tag) (list_of l).1 ≡ list_place_at s i
     unfolding list_read
-    list_held a q h =
-        at_open (λ m. at_position (get_elem? m.lists i)) e
-        (ap at_position (ap (λ (b : Bool). cond b (some (list_of a.list)) none) (sym h) ∙ q))
+    list_held h q = at_open (λ m. at_position (get_elem? m.lists i)) e (ap at_position (ap list_read (sym h) ∙ q))
 
-    pub list-none : (a : ListAnswer) → list_read a ≡ get_elem? (view d.model).lists i → a.held ≡ false → nothing ≡ list_place_at s i
+    pub list-none : {a : Found InputList} → a ≡ None → list_read a ≡ get_elem? (view d.model).lists i → nothing ≡ list_place_at s i
     unfolding list_read
-    list-none a q h =
-        at_open (λ m. at_position (get_elem? m.lists i)) e
-        (ap at_position (ap (λ (b : Bool). cond b (some (list_of a.list)) none) (sym h) ∙ q))
+    list-none h q = at_open (λ m. at_position (get_elem? m.lists i)) e (ap at_position (ap list_read (sym h) ∙ q))
 
   -- ---- by tag
 
@@ -130,35 +125,32 @@ module _ {s : List ℕ} {d : Decoded} (x : Opens s d) where
           ∙ ap (λ (u : Tag). under_tag u (component (view d.model) u)) made
           ∙ short_0 t (under_tag t (component (view d.model) t)) h)
 
-      pub list-found : (a : ListAnswer) (o : Option (List Place)) → o ≡ places_read a → places_read a ≡ list (view d.model) (bytes_of r) → under_tag (bytes_of r) o ≡ list_under s t
-      list-found a o p q =
+      inputs-found : (o : Option (List Place)) → o ≡ list (view d.model) (bytes_of r) → under_tag (bytes_of r) o ≡ list_under s t
+      inputs-found o q =
           at_open (λ m. short t (under_tag t (list m t))) e
-          (ap (under_tag (bytes_of r)) (p ∙ q)
+          (ap (under_tag (bytes_of r)) q
           ∙ ap (λ (u : Tag). under_tag u (list (view d.model) u)) made
           ∙ short_0 t (under_tag t (list (view d.model) t)) h)
 
-pub places-held : (a : ListAnswer) → a.held ≡ true → some (list_of a.list).1 ≡ places_read a
-unfolding places_read
-places-held a h = sym (ap (λ (b : Bool). cond b (some (list_of a.list).1) none) h)
+      pub inputs-held : {a : Found InputList} {l : InputList} → a ≡ Some l → places_read a ≡ list (view d.model) (bytes_of r) → held (bytes_of r) (list_of l).1 ≡ list_under s t
+      unfolding places_read
+      inputs-held {l = l} g q = inputs-found (some (list_of l).1) (ap places_read (sym g) ∙ q)
 
-pub places-nothing : (a : ListAnswer) → a.held ≡ false → none ≡ places_read a
-unfolding places_read
-places-nothing a h = sym (ap (λ (b : Bool). cond b (some (list_of a.list).1) none) h)
+      pub inputs-none : {a : Found InputList} → a ≡ None → places_read a ≡ list (view d.model) (bytes_of r) → nothing ≡ list_under s t
+      unfolding places_read
+      inputs-none g q = inputs-found none (ap places_read (sym g) ∙ q)
 
 -- ---- dw_default
-
-default_as : {s : List ℕ} {d : Decoded} (x : Opens s d) → d.ok ≡ true → (p : PlaceRecord) → place_of p ≡ (view d.model).default → (b : Bool) → p.assigned ≡ b
-    → default_of (cond b (some (bytes_of p.tag)) none) ≡ of_default (held_in s)
-unfolding place_of
-default_as x e p v b h = ap (λ (c : Bool). default_of (cond c (some (bytes_of p.tag)) none)) (sym h) ∙ ap default_of v ∙ ap of_default (sym (x.holds e))
 
 module _ {s : List ℕ} {d : Decoded} {out after : List ℕ} {code : ℕ} (x : Opens s d) where
   pub default_7 : d.ok ≡ false → Says (plain 7) out after code → Says (of_default (held_in s)) out after code
   default_7 e q = says_as q (ap of_default (sym (x.closed e)))
 
-  module _ (e : d.ok ≡ true) (p : PlaceRecord) (v : place_of p ≡ (view d.model).default) where
-    pub default_some : p.assigned ≡ true → Says (answered (bytes_of p.tag) 1) out after code → Says (of_default (held_in s)) out after code
-    default_some h q = says_as q (default_as x e p v true h)
+  module _ (e : d.ok ≡ true) {p : PlaceRecord} (v : place_of p ≡ (view d.model).default) where
+    pub default_some : {t : Label} → p ≡ Some t → Says (answered (bytes_of t) 1) out after code → Says (of_default (held_in s)) out after code
+    unfolding place_of
+    default_some h q = says_as q (ap default_of (ap place_of (sym h) ∙ v) ∙ ap of_default (sym (x.holds e)))
 
-    pub default_none : p.assigned ≡ false → Says (plain 0) out after code → Says (of_default (held_in s)) out after code
-    default_none h q = says_as q (default_as x e p v false h)
+    pub default_none : p ≡ None → Says (plain 0) out after code → Says (of_default (held_in s)) out after code
+    unfolding place_of
+    default_none h q = says_as q (ap default_of (ap place_of (sym h) ∙ v) ∙ ap of_default (sym (x.holds e)))

@@ -14,11 +14,11 @@ use Rattle.tag.specs.View.{bytes_of, Labelled}
 use Rattle.geometry.specs.declared.vec3f.Vec3.{Vec3}
 use Rattle.component.specs.Value.{input_count}
 use Rattle.component.specs.Parameter.{Name}
-use Rattle.naming.specs.Names.{type_name, parameter_at, Described}
+use Rattle.naming.specs.Names.{Entry, type_name, parameter_at, Described, DescribedAt}
 use Rattle.component.specs.declared.parameter.Parameter.{Parameter}
-use Rattle.component.specs.declared.parameter.Data.TheVariants.{Value, Vec3 as Vector, Boolean}
-use Rattle.component.specs.declared.model_component.Reading.{Reading}
-use Rattle.component.specs.declared.model_component.Reading.TheVariants.{Read, Nothing}
+use Rattle.component.specs.declared.parameter.Data.TheVariants.{Value, Vec3 as Vector}
+use Rattle.std.specs.Prelude.{Option as Found, Some, None}
+use Rattle.component.specs.declared.parameter.Data.{Data}
 use Rattle.component.specs.declared.model_component.Component.{Component}
 use Rattle.component.specs.declared.model_component.Component.TheVariants.{Constant, Sphere, Torus, Multiply, Add, Subtract, Divide, Lerp, VariableLerp, Remap, BooleanUnion, BooleanIntersection, BooleanDifference, Offset, Thickness}
 use Rattle.model.specs.Model.{component}
@@ -29,7 +29,7 @@ use Rattle.rows.specs.Written.{Writes}
 use Rattle.model_bytes.specs.declared.decode.Decoded.{Decoded}
 use Rattle.report.specs.Report.{Report}
 use Rattle.opened.specs.Said.{plain, answered, Says, Opens}
-use Rattle.showing_parameters.specs.Parameters.{Asked, unread, read, read_of, read_short, read_in, parameter_in, ShowsParameter, kind_of, of_kind, takes, of_parameter}
+use Rattle.showing_parameters.specs.Parameters.{Asked, unread, read, read_of, read_short, read_in, parameter_in, ShowsParameter, kind_of, of_kind, takes, of_entry, of_parameter}
 use Rattle.opened.proofs.Laws.Said.{says_as}
 
 -- ---- shown
@@ -40,27 +40,21 @@ unread-shown {a} {words} {out} {after} {code} n t u f e q =
     subst (λ (c : Asked). ShowsParameter c words words out after code) e
     (record { shown = refl; says = says_as q (ap {B = Report} (λ (v : Tag). record { code = n; index = 0; tag = v; number = 0 }) f) })
 
-module _ {words out after : List ℕ} {code : ℕ} (r : Reading) where
-  pub nothing-shown : r ≡ Nothing → Says (plain 0) out after code → ShowsParameter (read r) words words out after code
-  nothing-shown e q = subst (λ (y : Reading). ShowsParameter (read y) words words out after code) (sym e) (record { shown = refl; says = q })
-
-  pub boolean_shown : (b : Bool) → r ≡ Read (Boolean b) → Says (plain 0) out after code → ShowsParameter (read r) words words out after code
-  boolean_shown b e q = subst (λ (y : Reading). ShowsParameter (read y) words words out after code) (sym e) (record { shown = refl; says = q })
-
+module _ {words out after : List ℕ} {code : ℕ} (r : Found Data) where
   module _ {worded : List ℕ} where
-    pub value-shown : (x : Float) (a : ℕ) (u : Tag) → r ≡ Read (Value x) → a ≡ bits_of x → u ≡ empty → Writes (λ v. three_in v 0) (a, (0, 0)) 0 24 words worded
+    pub value-shown : (x : Float) (a : ℕ) (u : Tag) → r ≡ Some (Value x) → a ≡ bits_of x → u ≡ empty → Writes (λ v. three_in v 0) (a, (0, 0)) 0 24 words worded
         → Says (answered u 1) out after code → ShowsParameter (read r) words worded out after code
     value-shown x a u e f g w q =
-        subst (λ (y : Reading). ShowsParameter (read y) words worded out after code) (sym e)
+        subst (λ (y : Found Data). ShowsParameter (read y) words worded out after code) (sym e)
         (record {
           shown = subst (λ (k : ℕ). Writes (λ v. three_in v 0) (k, (0, 0)) 0 24 words worded) f w;
           says = says_as q (ap (λ (v : Tag). answered v 1) g);
         })
 
-    pub vector_shown : (p : Vec3) (a b c : ℕ) (u : Tag) → r ≡ Read (Vector p) → a ≡ bits_of p.x → b ≡ bits_of p.y → c ≡ bits_of p.z → u ≡ empty
+    pub vector_shown : (p : Vec3) (a b c : ℕ) (u : Tag) → r ≡ Some (Vector p) → a ≡ bits_of p.x → b ≡ bits_of p.y → c ≡ bits_of p.z → u ≡ empty
         → Writes (λ v. three_in v 0) (a, (b, c)) 0 24 words worded → Says (answered u 2) out after code → ShowsParameter (read r) words worded out after code
     vector_shown p a b c u e f g h i w q =
-        subst (λ (y : Reading). ShowsParameter (read y) words worded out after code) (sym e)
+        subst (λ (y : Found Data). ShowsParameter (read y) words worded out after code) (sym e)
         (record {
           shown =
               subst (λ (k : ℕ). Writes (λ v. three_in v 0) (bits_of p.x, (bits_of p.y, k)) 0 24 words worded) h
@@ -69,7 +63,7 @@ module _ {words out after : List ℕ} {code : ℕ} (r : Reading) where
         })
 
 -- what say_data shows of a component's parameter
-pub read-shown : {a : Asked} {words worded out after : List ℕ} {code : ℕ} (r : Reading) → read r ≡ a → ShowsParameter (read r) words worded out after code → ShowsParameter a words worded out after code
+pub read-shown : {a : Asked} {words worded out after : List ℕ} {code : ℕ} (r : Found Data) → read r ≡ a → ShowsParameter (read r) words worded out after code → ShowsParameter a words worded out after code
 read-shown {words = words} {worded = worded} {out = out} {after = after} {code = code} r e q = subst (λ (c : Asked). ShowsParameter c words worded out after code) e q
 
 -- ---- what was asked
@@ -112,6 +106,15 @@ inputs_few BooleanDifference = omega arith
 inputs_few (Offset distance) = omega arith
 inputs_few (Thickness t) = omega arith
 
+-- the parameter at a place, as it was described
+beyond : (a : Found Entry) (o : Found Parameter) → o ≡ None → DescribedAt a o → plain 0 ≡ of_entry a
+beyond None o h l = refl
+beyond (Some a) o h l = absurd (subst (DescribedAt (Some a)) h l)
+
+named : (a : Found Entry) (o : Found Parameter) {p : Parameter} {n : ℕ} → o ≡ Some p → DescribedAt a o → n ≡ takes p.data_type → answered (bytes_of p.name) n ≡ of_entry a
+named None o h l f = absurd (subst (DescribedAt None) h l)
+named (Some a) o {p} h l f = let m : Described a p = subst (DescribedAt (Some a)) h l in ap₂ answered m.name.bytes (f ∙ ap takes m.takes)
+
 module _ {out after : List ℕ} {code : ℕ} where
   pub kind_none : (kind : ℕ) → none ≡ kind_of kind → Says (plain 0) out after code → Says (of_kind (kind_of kind)) out after code
   kind_none kind e q = says_as q (ap of_kind e)
@@ -123,7 +126,9 @@ module _ {out after : List ℕ} {code : ℕ} where
   pub parameter_none : (kind i : ℕ) → none ≡ kind_of kind → Says (plain 0) out after code → Says (of_parameter (kind_of kind) i) out after code
   parameter_none kind i e q = says_as q (ap (λ (o : Option Component). of_parameter o i) e)
 
-  pub parameter_named : (kind i : ℕ) (c : Component) (p : Parameter) (n : ℕ) → some c ≡ kind_of kind → Described (parameter_at c i) p → n ≡ takes p.data_type
-      → Says (answered (bytes_of p.name) n) out after code → Says (of_parameter (kind_of kind) i) out after code
-  parameter_named kind i c p n e l f q =
-      says_as q (ap₂ answered l.name.bytes (f ∙ ap takes l.takes) ∙ ap (λ (o : Option Component). of_parameter o i) e)
+  module _ (kind i : ℕ) (c : Component) {o : Found Parameter} (e : some c ≡ kind_of kind) (l : DescribedAt (parameter_at c i) o) where
+    pub parameter_beyond : o ≡ None → Says (plain 0) out after code → Says (of_parameter (kind_of kind) i) out after code
+    parameter_beyond h q = says_as q (beyond (parameter_at c i) o h l ∙ ap (λ (y : Option Component). of_parameter y i) e)
+
+    pub parameter_named : {p : Parameter} {n : ℕ} → o ≡ Some p → n ≡ takes p.data_type → Says (answered (bytes_of p.name) n) out after code → Says (of_parameter (kind_of kind) i) out after code
+    parameter_named {p} {n} h f q = says_as q (named (parameter_at c i) o h l f ∙ ap (λ (y : Option Component). of_parameter y i) e)

@@ -3,55 +3,39 @@ use Prim.Native.Nat.{ℕ, ◌-◌}
 use mathlib.Core.Path.{◌≡◌, sym, ap, subst}
 use mathlib.Core.Bool.{true, false}
 use mathlib.Core.Option.{Option, none, some, get_or}
-use lib.Ieee.{binary64, of_bits}
+use Rattle.std.specs.Prelude.{Option as Found, Some, None}
+use Rattle.std.specs.Option.{unwrap_or}
 use Rattle.tag.specs.Tags.{Tag}
 use Rattle.component.specs.declared.model_component.Component.{Component}
-use Rattle.component.specs.declared.model_component.Component.TheVariants.{Constant, Multiply}
+use Rattle.component.specs.declared.model_component.Component.TheVariants.{Multiply}
 use Rattle.component.specs.declared.parameter.Data.{Data}
-use Rattle.component.specs.declared.parameter.Data.TheVariants.{Boolean}
 use Rattle.model.specs.declared.implicit_model.Model.{Model as Record}
 use Rattle.model.specs.Edit.{Edit, add_operation, add_function, add_component}
 use Rattle.edit.specs.declared.Edited.{Edited}
 use Rattle.edit.specs.Meets.{Meets}
-use Rattle.component_layout.specs.Components.{component_from, data_from}
+use Rattle.component_layout.specs.Components.{component_from, component_read, data_read}
 use Rattle.edit_rows.specs.EditRows.{given}
 use Rattle.input_rows.specs.Inputs.{inputs_of}
 use Rattle.row_running.proofs.Laws.Row.{given-none, given_some}
-use Rattle.word_edits.specs.Edits.{function_of, operation_of, data_of, added_as, component_edit}
+use Rattle.word_edits.specs.Edits.{added_as, component_edit}
 
-module _ (kind a b c : ℕ) where
-  pub data-some : {x : Data} → data_from kind a b c ≡ some x → x ≡ data_of kind a b c
-  unfolding data_of
-  data-some h = sym (ap (λ (o : Option Data). get_or o (Boolean false)) h)
+-- what was read, or what stands for none
+pub component-or : (r : Found Component) (k : Component) {o : Option Component} → component_read r ≡ o → unwrap_or r k ≡ get_or o k
+component-or (Some c) k e = ap (λ (y : Option Component). get_or y k) e
+component-or None k e = ap (λ (y : Option Component). get_or y k) e
 
-  pub data-none : data_from kind a b c ≡ none → Boolean false ≡ data_of kind a b c
-  unfolding data_of
-  data-none h = sym (ap (λ (o : Option Data). get_or o (Boolean false)) h)
+pub data-or : (r : Found Data) (k : Data) {o : Option Data} → data_read r ≡ o → unwrap_or r k ≡ get_or o k
+data-or (Some d) k e = ap (λ (y : Option Data). get_or y k) e
+data-or None k e = ap (λ (y : Option Data). get_or y k) e
 
-  module _ (d e : ℕ) where
-    pub function_some : {x : Component} → component_from kind a b c d e ≡ some x → x ≡ function_of kind a b c d e
-    unfolding function_of
-    function_some h = sym (ap (λ (o : Option Component). get_or o Multiply) h)
+module _ (kind a b c d e : ℕ) (t : Tag) where
+  pub component_some : {x : Component} → component_from kind a b c d e ≡ some x → add_component t x ≡ component_edit t kind a b c d e
+  unfolding component_edit
+  component_some h = ap (added_as t) (sym h)
 
-    pub function_none : component_from kind a b c d e ≡ none → Multiply ≡ function_of kind a b c d e
-    unfolding function_of
-    function_none h = sym (ap (λ (o : Option Component). get_or o Multiply) h)
-
-    pub operation_some : {x : Component} → component_from kind a b c d e ≡ some x → x ≡ operation_of kind a b c d e
-    unfolding operation_of
-    operation_some h = sym (ap (λ (o : Option Component). get_or o (Constant (of_bits binary64 0))) h)
-
-    pub operation_none : component_from kind a b c d e ≡ none → Constant (of_bits binary64 0) ≡ operation_of kind a b c d e
-    unfolding operation_of
-    operation_none h = sym (ap (λ (o : Option Component). get_or o (Constant (of_bits binary64 0))) h)
-
-    pub component_some : (t : Tag) {x : Component} → component_from kind a b c d e ≡ some x → add_component t x ≡ component_edit t kind a b c d e
-    unfolding component_edit
-    component_some t h = ap (added_as t) (sym h)
-
-    pub component-none : (t : Tag) → component_from kind a b c d e ≡ none → add_function t Multiply ≡ component_edit t kind a b c d e
-    unfolding component_edit
-    component-none t h = ap (added_as t) (sym h)
+  pub component-none : component_from kind a b c d e ≡ none → add_function t Multiply ≡ component_edit t kind a b c d e
+  unfolding component_edit
+  component-none h = ap (added_as t) (sym h)
 
 -- the inputs given
 module _ (t : Tag) (op : Component) (n : ℕ) (a b d : Tag) where

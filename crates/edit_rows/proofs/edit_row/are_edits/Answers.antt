@@ -1,24 +1,21 @@
 -- `are_edits` meets its contract. Assumes nothing.
 use native.Mathlib.Omega.{arith}
-use mathlib.Core.Path.{sym, ap, ◌∙◌}
-use borrow.Author.Tests.{not-true, not-false}
+use mathlib.Core.Path.{refl, sym, ap, ◌∙◌}
+use Prim.Native.Nat.{◌*◌, ◌/◌}
+use lib.ListN.{length}
+use Rattle.std.proofs.Common.{rules}
+use Rattle.std.proofs.lemmas.Iterator.{YieldsList-from_range}
+use Rattle.std.proofs.lemmas.Iterator.Search.{all_from_yields_List}
 use Rattle.layout.specs.Some.{is_some}
-use Rattle.edit_rows.proofs.Laws.{rows_no, rows_yes, rows_start, rows_end, edits_part}
+use Rattle.edit_rows.specs.EditRows.{edit_at}
+use Rattle.edit_rows.proofs.Laws.{edits_part, edits_whole}
 use Rattle.edit_rows.proofs.edit_row.are_edits.Goals as goal
 
 pub returns-then-s-ne0 : goal.returns-then-s-ne0
 returns-then-s-ne0 c = sym (ap is_some (edits_part _ c.if-s-ne0.true))
 
-pub loop-i-init : goal.loop-i-init
-loop-i-init c = (omega arith, sym (rows_start c.args.s.now c.if-s-ne0.false))
-
-pub returns-then-not-is_edit : goal.returns-then-not-is_edit
-returns-then-not-is_edit c =
-    sym (sym c.loop-i.invariant.1 ∙ rows_no _ _ c.loop-i.i c.loop-i-test.true (sym c.is_edit.ensures ∙ not-true c.is_edit.result c.if-not-is_edit.true-raw))
-
-pub loop-i-preserved : goal.loop-i-preserved
-loop-i-preserved c =
-    (omega arith, rows_yes _ _ c.loop-i.i c.loop-i-test.true (sym c.is_edit.ensures ∙ not-false c.is_edit.result c.if-not-is_edit.false-raw) ∙ c.loop-i.invariant.1)
-
 pub returns : goal.returns
-returns c = sym (rows_end c.args.s.now _ c.loop-i.i _ c.loop-i-test.false) ∙ c.loop-i.invariant.1
+returns c =
+    let s = c.args.s.now in
+    all_from_yields_List (λ i. is_some (edit_at s (i * 256))) _ _ _ c.all.ensures.ran (YieldsList-from_range 0 _ (length s / 256) refl (omega arith)) (λ x b q k. search rules)
+    ∙ edits_whole s c.if-s-ne0.false

@@ -1,51 +1,38 @@
 -- `is_edit` meets its contract. Assumes nothing.
+use native.Mathlib.Omega.{arith}
+use Prim.Native.Nat.{◌-◌}
 use mathlib.Core.Path.{sym, ap, ◌∙◌}
-use borrow.Author.Tests.{not-true, not-false}
 use Rattle.layout.specs.Some.{is_some}
-use Rattle.edit_rows.proofs.Laws.{some_operation, some_function, some_component, some_parameter, edit-none, edit_is, edit_beyond}
-use Rattle.component_layout.proofs.Laws.{missed}
+use Rattle.edit_rows.proofs.Laws.{edit-none, edit_is, edit_beyond, edit_component, edit_given, edit_data, component-there, data-there}
+use Rattle.edit_rows.proofs.edit_row.is_edit.Goals.{in-1-1, in_default+else-this-lt1+then-this-lt5}
 use Rattle.edit_rows.proofs.edit_row.is_edit.Goals as goal
 
 pub returns-then-not-texts_fit : goal.returns-then-not-texts_fit
-returns-then-not-texts_fit c =
-    sym (ap is_some (edit-none _ _ (sym c.texts_fit.ensures ∙ not-true c.texts_fit.result c.if-not-texts_fit.true-raw)))
+returns-then-not-texts_fit c = sym (ap is_some (edit-none _ _ (sym c.texts_fit.ensures ∙ c.if-not-texts_fit.true)))
 
 pub returns-in-1 : goal.returns-in-1
 returns-in-1 c =
-    c.has_component.ensures ∙ sym (ap is_some (edit_is _ _ (sym c.texts_fit.ensures ∙ not-false c.texts_fit.result c.if-not-texts_fit.false-raw) (sym c.read_word-which.ensures ∙ c.in-1.is)) ∙ some_operation _ _)
+    c.is_some-in-1.ensures
+    ∙ component-there c.component_at.result c.component_at.ensures
+    ∙ (elim c.in-1-1.branch [ in-1-1 w ↦ sym (edit_component _ _ (c.read_word.result - 1) (sym c.texts_fit.ensures ∙ c.if-not-texts_fit.false) (sym c.read_word.ensures ∙ omega arith) (omega arith) (λ z. omega arith)) | in_default+else-this-lt1+then-this-lt5 w ↦ sym (edit_component _ _ (c.read_word.result - 1) (sym c.texts_fit.ensures ∙ c.if-not-texts_fit.false) (sym c.read_word.ensures ∙ omega arith) (omega arith) (λ z. omega arith)) ])
 
 pub returns-in-2 : goal.returns-in-2
-returns-in-2 c =
-    sym (ap is_some (edit_is _ _ (sym c.texts_fit.ensures ∙ not-false c.texts_fit.result c.if-not-texts_fit.false-raw) (sym c.read_word-which.ensures ∙ c.in-2.is)))
+returns-in-2 c = sym (ap is_some (edit_is _ _ (sym c.texts_fit.ensures ∙ c.if-not-texts_fit.false) (sym c.read_word.ensures ∙ c.in-2.is)))
 
-pub returns-in-3 : goal.returns-in-3
-returns-in-3 c =
-    c.has_component-in-3.ensures ∙ sym (ap is_some (edit_is _ _ (sym c.texts_fit.ensures ∙ not-false c.texts_fit.result c.if-not-texts_fit.false-raw) (sym c.read_word-which.ensures ∙ c.in-3.is)) ∙ some_function _ _)
-
-pub returns-in-4 : goal.returns-in-4
-returns-in-4 c =
-    c.has_component-in-4.ensures ∙ sym (ap is_some (edit_is _ _ (sym c.texts_fit.ensures ∙ not-false c.texts_fit.result c.if-not-texts_fit.false-raw) (sym c.read_word-which.ensures ∙ c.in-4.is)) ∙ some_component _ _)
-
-pub returns-in-5 : goal.returns-in-5
-returns-in-5 c =
-    sym (ap is_some (edit_is _ _ (sym c.texts_fit.ensures ∙ not-false c.texts_fit.result c.if-not-texts_fit.false-raw) (sym c.read_word-which.ensures ∙ c.in-5.is)))
-
-pub returns-in-6 : goal.returns-in-6
-returns-in-6 c =
-    sym (ap is_some (edit_is _ _ (sym c.texts_fit.ensures ∙ not-false c.texts_fit.result c.if-not-texts_fit.false-raw) (sym c.read_word-which.ensures ∙ c.in-6.is)))
-
-pub returns-in-7 : goal.returns-in-7
-returns-in-7 c =
-    sym (ap is_some (edit_is _ _ (sym c.texts_fit.ensures ∙ not-false c.texts_fit.result c.if-not-texts_fit.false-raw) (sym c.read_word-which.ensures ∙ c.in-7.is)))
-
-pub returns-in-8 : goal.returns-in-8
-returns-in-8 c =
-    sym (ap is_some (edit_is _ _ (sym c.texts_fit.ensures ∙ not-false c.texts_fit.result c.if-not-texts_fit.false-raw) (sym c.read_word-which.ensures ∙ c.in-8.is)))
+pub returns-in-2-2 : goal.returns-in-2-2
+returns-in-2-2 c =
+    sym (edit_given _ _ (c.read_word.result - 5) (sym c.texts_fit.ensures ∙ c.if-not-texts_fit.false) (sym c.read_word.ensures ∙ omega arith) (omega arith))
 
 pub returns-in-9 : goal.returns-in-9
 returns-in-9 c =
-    c.has_data.ensures ∙ sym (ap is_some (edit_is _ _ (sym c.texts_fit.ensures ∙ not-false c.texts_fit.result c.if-not-texts_fit.false-raw) (sym c.read_word-which.ensures ∙ c.in-9.is)) ∙ some_parameter _ _)
+    c.is_some.ensures
+    ∙ data-there c.data_at.result c.data_at.ensures
+    ∙ sym (edit_data _ _ (sym c.texts_fit.ensures ∙ c.if-not-texts_fit.false) (sym c.read_word.ensures ∙ c.in-9.is))
 
 pub returns-in_default : goal.returns-in_default
 returns-in_default c =
-    sym (ap is_some (edit_beyond _ _ c.read_word-which.result (sym c.texts_fit.ensures ∙ not-false c.texts_fit.result c.if-not-texts_fit.false-raw) (sym c.read_word-which.ensures) (λ h. missed 1 9 c.read_word-which.result h c.in_default.in_default-own.rest)))
+    sym (ap is_some (edit_beyond _ _ c.read_word.result (sym c.texts_fit.ensures ∙ c.if-not-texts_fit.false) (sym c.read_word.ensures) (λ h. omega arith)))
+
+pub returns-in_default-2 : goal.returns-in_default-2
+returns-in_default-2 c =
+    sym (ap is_some (edit_beyond _ _ c.read_word.result (sym c.texts_fit.ensures ∙ c.if-not-texts_fit.false) (sym c.read_word.ensures) (λ h. omega arith)))

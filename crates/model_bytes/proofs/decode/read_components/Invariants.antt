@@ -1,5 +1,4 @@
 -- `read_components` meets its contract. Assumes nothing.
-use Prim.Native.Nat.{◌-◌, ◌≤◌}
 use mathlib.Core.Path.{◌≡◌}
 use lib.ListN.{length}
 use Rattle.model.specs.View.{component_of, entry_fits}
@@ -8,7 +7,4 @@ use Rattle.model_bytes.proofs.Laws.Reading.{Sofar}
 use Rattle.model_bytes.proofs.decode.read_components.Given as goal
 
 abbrev pub invariant-loop-i : goal.invariant-loop-i
-invariant-loop-i l = (l.i ≤ l.n) × (length l.entries ≡ 64) × Sofar component_of entry_fits (entry_row l.s) l.i l.entries
-
-abbrev pub decreases-loop-i : goal.decreases-loop-i
-decreases-loop-i l = l.n - l.i
+invariant-loop-i l = (length l.entries ≡ 64) × Sofar component_of entry_fits (entry_row l.s) l.i l.entries

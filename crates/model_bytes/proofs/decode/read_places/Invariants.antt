@@ -1,5 +1,4 @@
 -- `read_places` meets its contract. Assumes nothing.
-use Prim.Native.Nat.{◌-◌, ◌≤◌}
 use mathlib.Core.Path.{◌≡◌}
 use lib.ListN.{length}
 use Rattle.model.specs.View.{place_of, place_fits}
@@ -8,7 +7,4 @@ use Rattle.model_bytes.proofs.Laws.Reading.{Sofar}
 use Rattle.model_bytes.proofs.decode.read_places.Given as goal
 
 abbrev pub invariant-loop-i : goal.invariant-loop-i
-invariant-loop-i l = (l.i ≤ l.n) × (length l.places ≡ 3) × Sofar place_of place_fits (place_row l.s l.at) l.i l.places
-
-abbrev pub decreases-loop-i : goal.decreases-loop-i
-decreases-loop-i l = l.n - l.i
+invariant-loop-i l = (length l.places ≡ 3) × Sofar place_of place_fits (place_row l.s l.at) l.i l.places

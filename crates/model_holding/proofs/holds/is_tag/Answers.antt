@@ -3,4 +3,4 @@ use Rattle.model_holding.proofs.Laws.{tag_held}
 use Rattle.model_holding.proofs.holds.is_tag.Goals as goal
 
 pub returns : goal.returns
-returns c = λ e. tag_held _ _ c.read_word-n.ensures (c.is_text.ensures e)
+returns c = λ e. tag_held _ _ c.read_word.ensures (c.is_text.ensures e)

@@ -1,6 +1,10 @@
 -- `encode` meets its contract. Assumes nothing.
-use mathlib.Core.Path.{sym, ◌∙◌}
-use Rattle.model.specs.View.{rows}
+use mathlib.Core.Path.{sym, ap, ◌∙◌}
+use mathlib.Core.List.{map}
+use native.Mathlib.Omega.{arith}
+use Rattle.model.specs.View.{rows, every, component_of, entry_fits, list_of, list_fits}
+use Rattle.model_bytes.specs.ModelBytes.{entry_row, list_row}
+use Rattle.model_writing.proofs.Laws.Writing.{live_wrote}
 use Rattle.model_writing.proofs.Laws.Sizes.{sized}
 use Rattle.model_writing.proofs.Laws.Encoding.{no_room, unfit, written}
 use Rattle.model_writing.proofs.encode.encode.Goals as goal
@@ -12,16 +16,24 @@ pub returns-then-not-model_fits : goal.returns-then-not-model_fits
 returns-then-not-model_fits c = unfit _ _ (sym c.model_fits.ensures ∙ c.if-not-model_fits.true)
 
 pub write_header-requires : goal.write_header-requires
-write_header-requires c = (c.if-out-ne27200.false, (sized c.args.m (sym c.model_fits.ensures ∙ c.if-not-model_fits.false)).default)
+write_header-requires c = (c.if-out-ne27200.false, (sized c.args.m.now (sym c.model_fits.ensures ∙ c.if-not-model_fits.false)).default)
 
 pub write_components-requires : goal.write_components-requires
+unfolding rows
 write_components-requires c =
-    ((sized c.args.m (sym c.model_fits.ensures ∙ c.if-not-model_fits.false)).components, (c.write_header.ensures.kept.size ∙ c.if-out-ne27200.false, (sized c.args.m (sym c.model_fits.ensures ∙ c.if-not-model_fits.false)).entries))
+    let z = sized c.args.m.now (sym c.model_fits.ensures ∙ c.if-not-model_fits.false) in
+    (omega (arith, c.live_components.ensures.bound), (c.write_header.ensures.kept.size ∙ c.if-out-ne27200.false, ap (λ es. every (map entry_fits es)) c.live_components.ensures.rows ∙ z.entries))
 
 pub write_lists-requires : goal.write_lists-requires
+unfolding rows
 write_lists-requires c =
-    ((sized c.args.m (sym c.model_fits.ensures ∙ c.if-not-model_fits.false)).lists, (c.write_components.ensures.kept.size ∙ c.write_header.ensures.kept.size ∙ c.if-out-ne27200.false, (sized c.args.m (sym c.model_fits.ensures ∙ c.if-not-model_fits.false)).rows))
+    let z = sized c.args.m.now (sym c.model_fits.ensures ∙ c.if-not-model_fits.false) in
+    (omega (arith, c.live_lists.ensures.bound), (c.write_components.ensures.kept.size ∙ c.write_header.ensures.kept.size ∙ c.if-out-ne27200.false, ap (λ ls. every (map list_fits ls)) c.live_lists.ensures.rows ∙ z.rows))
 
 pub returns : goal.returns
 returns c =
-    written c.args.m c.if-out-ne27200.false (sym c.model_fits.ensures ∙ c.if-not-model_fits.false) c.write_header.ensures c.write_components.ensures c.write_lists.ensures
+    let m = c.args.m.now in
+    let z = sized m (sym c.model_fits.ensures ∙ c.if-not-model_fits.false) in
+    written m c.if-out-ne27200.false (sym c.model_fits.ensures ∙ c.if-not-model_fits.false) c.write_header.ensures
+    (live_wrote component_of entry_row 64 88 m.component_count m.components c.live_components.ensures.rows (omega (arith, c.live_components.ensures.bound, z.components)) c.write_components.ensures)
+    (live_wrote list_of list_row 5696 168 m.list_count m.lists c.live_lists.ensures.rows (omega (arith, c.live_lists.ensures.bound, z.lists)) c.write_lists.ensures)

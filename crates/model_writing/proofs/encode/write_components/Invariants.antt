@@ -1,5 +1,5 @@
 -- `write_components` meets its contract. Assumes nothing.
-use Prim.Native.Nat.{◌*◌, ◌-◌, ◌≤◌}
+use Prim.Native.Nat.{◌*◌}
 use mathlib.Core.Option.{some}
 use Rattle.model.specs.View.{rows, component_of}
 use Rattle.rows.specs.Rows.{rows_in}
@@ -8,7 +8,4 @@ use Rattle.rows.specs.Written.{Wrote}
 use Rattle.model_writing.proofs.encode.write_components.Given as goal
 
 abbrev pub invariant-loop-i : goal.invariant-loop-i
-invariant-loop-i l = (l.i ≤ l.n) × Wrote (λ u. rows_in (entry_row u) l.i) (some (rows component_of l.i l.table)) 64 (88 * l.i) l.initial.s l.s
-
-abbrev pub decreases-loop-i : goal.decreases-loop-i
-decreases-loop-i l = l.n - l.i
+invariant-loop-i l = Wrote (λ u. rows_in (entry_row u) l.i) (some (rows component_of l.i l.table)) 64 (88 * l.i) l.initial.s l.s

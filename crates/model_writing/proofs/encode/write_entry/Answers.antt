@@ -5,4 +5,4 @@ use Rattle.model_writing.proofs.encode.write_entry.Goals as goal
 
 pub returns : goal.returns
 returns c =
-    entry-wrote c.args.e (c.write_tag.ensures.wrote (omega (arith, c.requires.0))) (c.write_component.ensures.wrote (omega (arith, c.requires.0)))
+    entry-wrote c.args.e.now (c.write_tag.ensures.wrote (omega (arith, c.requires.0))) (c.write_component.ensures.wrote (omega (arith, c.requires.0)))

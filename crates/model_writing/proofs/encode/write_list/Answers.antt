@@ -6,4 +6,4 @@ use Rattle.model_writing.proofs.encode.write_list.Goals as goal
 
 pub returns : goal.returns
 returns c =
-    list_wrote c.args.l (listed c.args.l c.requires.1).few (c.write_tag.ensures.wrote (omega (arith, c.requires.0))) (c.write_number.ensures.wrote (omega (arith, c.requires.0))) (c.write_places.ensures.wrote (omega (arith, c.requires.0)))
+    list_wrote c.args.l.now (listed c.args.l.now c.requires.1).few (c.write_tag.ensures.wrote (omega (arith, c.requires.0))) (c.write_number.ensures.wrote (omega (arith, c.requires.0))) (c.write_places.ensures.wrote (omega (arith, c.requires.0)))

@@ -1,28 +1,13 @@
 -- `components_fit` meets its contract. Assumes nothing.
-use mathlib.Core.Path.{refl, sym, ◌∙◌}
-use native.Mathlib.Omega.{arith}
-use borrow.Author.Tests.{le-leb, lt-leb}
-use Rattle.tag.specs.View.{tag_fits}
-use Rattle.model.specs.View.{rows, component_of, entry_fits}
-use Rattle.held.proofs.Laws.Rows.{rows_next, rows-length, every_hit, every_miss, every_end}
+use mathlib.Core.Path.{◌∙◌}
+use Rattle.std.proofs.Common.{rules}
+use Rattle.std.proofs.lemmas.Iterator.{YieldsList-from_slice}
+use Rattle.std.proofs.lemmas.Iterator.Search.{all_from_yields_List}
+use Rattle.model.specs.View.{entry_fits}
+use Rattle.held.proofs.Laws.Rows.{every_rows}
 use Rattle.model_writing.proofs.sizes.components_fit.Goals as goal
-
-pub loop-i-init : goal.loop-i-init
-loop-i-init c = (omega arith, refl)
-
-pub returns-then-e-gt32 : goal.returns-then-e-gt32
-unfolding tag_fits
-returns-then-e-gt32 c =
-    let m = c.args.m in
-    sym (every_miss (rows entry_fits m.component_count m.components) c.loop-i.i (rows_next entry_fits m.components m.component_count c.loop-i.i _ (omega (arith, rows-length entry_fits m.components m.component_count, rows-length component_of m.components m.component_count))) (lt-leb _ 32 c.if-e-gt32.true)) ∙ c.loop-i.invariant.1
-
-pub loop-i-preserved : goal.loop-i-preserved
-unfolding tag_fits
-loop-i-preserved c =
-    let m = c.args.m in
-    (omega arith, sym (every_hit (rows entry_fits m.component_count m.components) c.loop-i.i (rows_next entry_fits m.components m.component_count c.loop-i.i _ (omega (arith, rows-length entry_fits m.components m.component_count, rows-length component_of m.components m.component_count))) (le-leb _ 32 c.if-e-gt32.false)) ∙ c.loop-i.invariant.1)
 
 pub returns : goal.returns
 returns c =
-    let m = c.args.m in
-    sym (every_end (rows entry_fits m.component_count m.components) c.loop-i.i (omega (arith, rows-length entry_fits m.components m.component_count, rows-length component_of m.components m.component_count))) ∙ c.loop-i.invariant.1
+    all_from_yields_List entry_fits _ _ _ c.all.ensures.ran (YieldsList-from_slice c.live_components.result.now cc) (λ x b q k. search rules)
+    ∙ every_rows entry_fits c.args.m.now.components c.args.m.now.component_count c.live_components.ensures.rows

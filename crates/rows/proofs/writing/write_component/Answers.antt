@@ -9,7 +9,7 @@ put_six-requires c = leb-true _ _ (sym c.has_room.ensures ∙ c.if-has_room.true
 
 pub returns-then-has_room : goal.returns-then-has_room
 returns-then-has_room c =
-    writes (leb-true _ _ (sym c.has_room.ensures ∙ c.if-has_room.true)) (component-wrote _ c.words_of-w.ensures c.put_six.ensures)
+    writes (leb-true _ _ (sym c.has_room.ensures ∙ c.if-has_room.true)) (component-wrote _ c.from-w.ensures c.put_six.ensures)
 
 pub returns-else-has_room : goal.returns-else-has_room
 returns-else-has_room c = narrow (leb-false _ _ (sym c.has_room.ensures ∙ c.if-has_room.false))

@@ -3,4 +3,4 @@ use Rattle.storing.proofs.Laws.Told.{told-plain}
 use Rattle.storing.proofs.store.tell_done.Goals as goal
 
 pub returns : goal.returns
-returns c = told-plain 0 0 c.empty_tag-none.ensures c.write_report.ensures
+returns c = told-plain 0 0 c.default.ensures c.write_report.ensures
