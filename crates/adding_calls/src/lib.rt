@@ -14,9 +14,7 @@ use word_edits::function_of;
 pub fn dw_add_constant(model: &mut [u8], tag: &[u8], value: u64, out: &mut [u8]) -> u32
     ensures { Called (add_constant tag.now (number value)) model.old model.new out.old out.new result }
 {
-    let added = add_constant_in(model, tag, float_of(value));
-    if added.ok {
-        let t = added.tag;
+    if let Some(t) = add_constant_in(model, tag, float_of(value)) {
         return tell_made(t, out);
     }
     decoded_adding::add_constant(model, tag, value, out)
@@ -36,9 +34,7 @@ pub fn dw_add_function(
     ensures { Called (add_function tag.now (function_of kind a b c d e)) model.old model.new out.old out.new result }
 {
     let f = function_of(kind, a, b, c, d, e);
-    let added = add_function_in(model, tag, f);
-    if added.ok {
-        let t = added.tag;
+    if let Some(t) = add_function_in(model, tag, f) {
         return tell_made(t, out);
     }
     decoded_adding::add_function(model, tag, kind, a, b, c, d, e, out)

@@ -28,9 +28,7 @@ pub fn dw_add_operation(
     ensures { Called (add_operation tag.now (operation_of kind a b c d e) (inputsGiven given first.now second.now third.now)) model.old model.new out.old out.new result }
 {
     let op = operation_of(kind, a, b, c, d, e);
-    let added = add_operation_in_with(model, tag, op, given, first, second, third);
-    if added.ok {
-        let t = added.tag;
+    if let Some(t) = add_operation_in_with(model, tag, op, given, first, second, third) {
         return tell_made(t, out);
     }
     decoded_adding::add_operation(
@@ -51,9 +49,7 @@ pub fn dw_add_component(
 ) -> u32
     ensures { Called (component_edit tag.now kind a b c d e) model.old model.new out.old out.new result }
 {
-    let added = add_component_in_of(model, tag, kind, a, b, c, d, e);
-    if added.ok {
-        let t = added.tag;
+    if let Some(t) = add_component_in_of(model, tag, kind, a, b, c, d, e) {
         return tell_made(t, out);
     }
     decoded_adding::add_component(model, tag, kind, a, b, c, d, e, out)

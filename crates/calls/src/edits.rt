@@ -21,9 +21,7 @@ pub fn dw_remove_component(model: &mut [u8], tag: &[u8], out: &mut [u8]) -> u32
 pub fn dw_rename_component(model: &mut [u8], old: &[u8], new: &[u8], out: &mut [u8]) -> u32
     ensures { Called (rename_component old.now new.now) model.old model.new out.old out.new result }
 {
-    let renamed = rename_component_in(model, old, new);
-    if renamed.ok {
-        let t = renamed.tag;
+    if let Some(t) = rename_component_in(model, old, new) {
         return tell_made(t, out);
     }
     decoded::rename_component(model, old, new, out)

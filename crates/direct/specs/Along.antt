@@ -1,5 +1,5 @@
 -- Numbers worked along a line. What the helpers of evaluate_in promise. Definitions only.
-use Rattle.std.specs.Prelude.{ℕ, ◌+◌, ◌*◌, ◌<◌, ◌≡◌, ◌⊎◌, cond, List, ltb, Float, get_or}
+use Rattle.std.specs.Prelude.{ℕ, ◌<◌, ◌≡◌, Bool, true, false, ⊤, List, Float, get_or, Option, Some, None}
 use Rattle.std.proofs.Math.Option.{some}
 use Rattle.std.specs.Float.{nan}
 use Rattle.geometry.specs.declared.vec3f.Vec3.{Vec3}
@@ -8,32 +8,40 @@ use Rattle.component.specs.declared.model_component.Component.{Component}
 use Rattle.model.specs.Form.{Number}
 use Rattle.model.specs.Walk.{clear, walk_from}
 use Rattle.finding.specs.Rows.{component_row, tag_of}
-use Rattle.standing.specs.Standing.{Stands}
+use Rattle.standing.specs.declared.Wire.{Wire}
+use Rattle.standing.specs.declared.Wire.TheVariants.{To, Past, Open}
+use Rattle.standing.specs.Standing.{wire_at, Stands}
 
-abbrev pub input_of : List Float → ℕ → Float
-input_of vals i = cond (ltb i 64) (get_or vals i nan) nan
+-- the number v that a wire brings, of those that are worked
+abbrev pub Brings : List (Option Float) → Wire → Float → Type 0
+Brings numbers (To r) v = get_or numbers r None ≡ Some v
+Brings numbers Past v = v ≡ nan
+Brings numbers Open v = ⊥
 
--- there is no such place, or its component is done
-abbrev pub Served : List ℕ → ℕ → Type 0
-Served done i = (i ≡ 64) ⊎ ((i < 64) × (get_or done i 0 ≡ 1))
-
--- the component at x, one of n, has its three places served
-pub record Ready (w done : List ℕ) (n x : ℕ) : Type 0 where
+-- the value of the component at x, one of n, on the numbers that its wires bring
+pub record Value (s : List ℕ) (n : ℕ) (w : List (List Wire)) (numbers : List (Option Float)) (x : ℕ) (p : Vec3) (v : Float) : Type 0 where
   pub below : x < n
-  pub first : Served done (get_or w (x * 3) 0)
-  pub second : Served done (get_or w (x * 3 + 1) 0)
-  pub third : Served done (get_or w (x * 3 + 2) 0)
-
--- the value of the component at x on the numbers of its places
-pub record Value (s w : List ℕ) (vals : List Float) (x : ℕ) (p : Vec3) (v : Float) : Type 0 where
   pub component : Component
   pub is : component_row s x ≡ some component
-  pub value : v ≡ compute component p (input_of vals (get_or w (x * 3) 0)) (input_of vals (get_or w (x * 3 + 1) 0)) (input_of vals (get_or w (x * 3 + 2) 0))
+  pub input : ℕ → Float
+  pub brings : (q : ℕ) → q < 3 → Brings numbers (wire_at w x q) (input q)
+  pub value : v ≡ compute component p (input 0) (input 1) (input 2)
 
 -- v is the number of the component at t, whichever model stands there
-abbrev pub Works : List ℕ → ℕ → List ℕ → Vec3 → ℕ → Float → Type 0
+abbrev pub Works : List ℕ → ℕ → List (List Wire) → Vec3 → ℕ → Float → Type 0
 Works s n w p t v = (g : Stands s n w) → Number g.model p (tag_of s t) v
 
+-- there is no such place, or its component is done
+abbrev pub Served : List Bool → Wire → Type 0
+Served done (To r) = get_or done r false ≡ true
+Served done Past = ⊤
+Served done Open = ⊥
+
+-- the component at x, one of n, has its three places served
+pub record Ready (w : List (List Wire)) (done : List Bool) (n x : ℕ) : Type 0 where
+  pub below : x < n
+  pub each : (q : ℕ) → q < 3 → Served done (wire_at w x q)
+
 -- the walk of `add_input` from the component at `from` meets neither the one at `target` nor a gap, whichever model stands there
-abbrev pub Clear : List ℕ → ℕ → ℕ → ℕ → Type 0
+abbrev pub Clear : List (List Wire) → ℕ → ℕ → ℕ → Type 0
 Clear w n target from = (s : List ℕ) (g : Stands s n w) → target < n → walk_from g.model (tag_of s target) (tag_of s from) ≡ clear

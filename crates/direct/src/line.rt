@@ -1,71 +1,84 @@
 // A line of the components that a target needs, inputs ahead of users. No contract but its bounds: who evaluates along it checks each step.
-ghost use Rattle.std.specs.Prelude.{◌≤◌, ◌<◌};
+ghost use Rattle.std.specs.Prelude.{◌≤◌};
 
-fn is_open(placed: &[u8; 64], x: usize) -> bool {
-    if x < 64 { placed[x] == 0 } else { false }
-}
+use standing::Wire;
 
-// The first input of x that is not placed; 64 where all are.
-fn waits_for(w: &[usize; 192], placed: &[u8; 64], x: usize) -> usize
-    requires { x < 64 }
-{
-    let a = w[x * 3];
-    if is_open(placed, a) {
-        return a;
-    }
-    let b = w[x * 3 + 1];
-    if is_open(placed, b) {
-        return b;
-    }
-    let c = w[x * 3 + 2];
-    if is_open(placed, c) {
-        return c;
-    }
-    64
-}
-
+// Rows in order, as many as there are components at most.
+// Kept: an array with its count, since there is no heap.
 #[derive(Clone, Copy)]
-pub struct Line {
-    pub at: [usize; 64],
-    pub n: usize,
+pub(crate) struct Rows {
+    at: [usize; 64],
+    count: usize,
+    ghost few: { count ≤ 64 },
+}
+
+impl Rows {
+    fn new() -> Rows {
+        Rows {
+            at: [0; 64],
+            count: 0,
+        }
+    }
+
+    pub(crate) fn as_slice(&self) -> &[usize] {
+        &self.at[..self.count]
+    }
+
+    fn last(&self) -> Option<usize> {
+        self.as_slice().last().copied()
+    }
+
+    // Whether there was room for one row more.
+    fn push(&mut self, row: usize) -> bool {
+        if self.count == 64 {
+            return false;
+        }
+        self.at[self.count] = row;
+        self.count += 1;
+        true
+    }
+
+    fn pop(&mut self) {
+        if 0 < self.count {
+            self.count -= 1;
+        }
+    }
+}
+
+// The first input that is not placed.
+fn waits_for(inputs: [Wire; 3], placed: &[bool; 64]) -> Option<usize> {
+    for wire in inputs {
+        if let Wire::To(row) = wire {
+            if placed.get(row as usize) == Some(&false) {
+                return Some(row as usize);
+            }
+        }
+    }
+    None
 }
 
 // From the target down to what waits for nothing, and back up. A way of 64 that has not ended is a cycle.
-pub(crate) fn line_of(w: &[usize; 192], t: usize) -> Line
-    ensures { result.n ≤ 64 }
-{
-    let mut at = [0usize; 64];
-    let mut n: usize = 0;
-    let mut placed = [0u8; 64];
-    let mut stack = [0usize; 64];
-    stack[0] = t;
-    let mut depth: usize = 0;
-    let mut turns: usize = 0;
-    while turns < 128 {
-        turns += 1;
-        let x = stack[depth];
+pub(crate) fn line_of(wires: &[[Wire; 3]; 64], target: usize) -> Rows {
+    let mut line = Rows::new();
+    let mut placed = [false; 64];
+    let mut way = Rows::new();
+    way.push(target);
+    for _ in 0..128 {
+        let Some(x) = way.last() else {
+            break;
+        };
         if 64 <= x {
-            return Line { at, n };
+            break;
         }
-        let y = waits_for(w, &placed, x);
-        if y < 64 {
-            if depth == 63 {
-                return Line { at, n };
+        if let Some(y) = waits_for(wires[x], &placed) {
+            if !way.push(y) {
+                break;
             }
-            depth += 1;
-            stack[depth] = y;
-            continue;
+        } else {
+            placed[x] = true;
+            line.push(x);
+            way.pop();
         }
-        if n == 64 {
-            return Line { at, n };
-        }
-        placed[x] = 1;
-        at[n] = x;
-        n += 1;
-        if depth == 0 {
-            return Line { at, n };
-        }
-        depth -= 1;
     }
-    Line { at, n }
+    line
 }

@@ -5,7 +5,6 @@ ghost use Rattle.direct_adding.specs.Put.{More};
 
 use component::model_component::Component;
 use direct_rows::put::put_entry;
-use model::implicit_model::Place;
 use rows::writing::{write_number, write_place};
 use tag::Tag;
 
@@ -17,10 +16,6 @@ pub fn put_more(s: &mut [u8], n: usize, t: Tag, c: Component, d: Tag)
         return;
     }
     put_entry(s, n, t, c);
-    let p = Place {
-        assigned: true,
-        tag: d,
-    };
-    write_place(s, 24, p);
+    write_place(s, 24, Some(d));
     write_number(s, 8, n as u64 + 1);
 }

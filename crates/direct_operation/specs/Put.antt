@@ -1,5 +1,5 @@
 -- The rows of a new operation written into the bytes of a model. Definitions only.
-use Rattle.std.specs.Prelude.{ℕ, ◌+◌, ◌≤◌, ◌<◌, min, ◌≡◌, List}
+use Rattle.std.specs.Prelude.{ℕ, ◌+◌, ◌≤◌, ◌<◌, min, ◌≡◌, ◌⊎◌, List, Option, Some, None}
 use Rattle.std.proofs.Math.Option.{some}
 use Rattle.tag.specs.Tags.{Tag}
 use Rattle.component.specs.declared.model_component.Component.{Component}
@@ -25,9 +25,11 @@ pub record OperationPut (n j : ℕ) (t : Tag) (c : Component) (ps : List Place) 
   pub row : RowPut j t ps s listed
   pub more : More n t c d listed u
 
--- the row for the list of t: the one that t has, or the next one
-pub record RowFor (s : List ℕ) (t : Tag) (j : ℕ) : Type 0 where
-  pub row : ℕ
-  pub sought : RowSought s list_place_at (min (word s 16) 128) 128 t row
-  pub over : row < 128 → j ≡ row
-  pub next : 128 ≤ row → j ≡ min (word s 16) 128
+-- the list of t, among those counted
+abbrev pub ListSought : List ℕ → Tag → Option ℕ → Type 0
+ListSought s t row = RowSought s list_place_at (min (word s 16) 128) t row
+
+-- the row for the list of t: the one that t has, or the next one, where there is room
+abbrev pub RowFor : List ℕ → Tag → Option ℕ → Type 0
+RowFor s t (Some j) = ListSought s t (Some j) ⊎ (ListSought s t None × ((j ≡ min (word s 16) 128) × (j < 128)))
+RowFor s t None = ListSought s t None × (128 ≤ min (word s 16) 128)

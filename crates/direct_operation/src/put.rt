@@ -7,22 +7,20 @@ ghost use Rattle.direct_operation.specs.Put.{RowPut, RowFor, OperationPut};
 use component::model_component::Component;
 use direct_adding::put::put_more;
 use direct_rows::put::put_list;
-use finding::{list_count, list_row_of};
+use finding::Table;
 use model::implicit_model::InputList;
 use rows::writing::write_number;
-use tag::{Tag, at_most};
+use tag::Tag;
 
-// The row for the list of a new operation: over a leftover one, or after the others; 128 where there is no room.
-pub(crate) fn row_for(s: &[u8], t: Tag) -> usize
+// The row for the list of a new operation: over a leftover one, or after the others, where there is room.
+pub(crate) fn row_for(s: &[u8], t: Tag) -> Option<usize>
     ensures { RowFor s.now (bytes_of t) result }
 {
-    let b = t.bytes;
-    let n = at_most(t.len, 32);
-    let j = list_row_of(s, &b[..n]);
-    if j < 128 {
-        return j;
+    if let Some(j) = Table::Lists.row_of(s, t.as_bytes()) {
+        return Some(j);
     }
-    list_count(s)
+    let n = Table::Lists.count(s);
+    if n < 128 { Some(n) } else { None }
 }
 
 // A list in the row j, which is one of those counted or the next one.
@@ -30,7 +28,7 @@ fn put_row(s: &mut [u8], j: usize, l: InputList)
     requires { (length s.old ≡ 27200) × ((j < 128) × (l.count ≤ 3)) }
     ensures { RowPut j (bytes_of l.tag) (places_of l.count l) s.old s.new }
 {
-    let k = list_count(s);
+    let k = Table::Lists.count(s);
     put_list(s, j, l);
     if j < k {
         return;

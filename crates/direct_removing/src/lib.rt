@@ -6,14 +6,13 @@ ghost use Rattle.model.specs.Edit.{remove_component, done};
 ghost use Rattle.direct_rows.specs.Took.{Takes};
 ghost use Rattle.direct_removing.specs.Removing.{LastMoved};
 
-use component_layout::component_words::ComponentRead;
 use direct_rows::put::put_entry;
 use direct_swapping::swap_places;
-use finding::{component_count, component_in_row, component_row_of};
+use finding::{Table, component_in_row};
 use layout::words::read_text;
-use model::implicit_model::Place;
 use rows::writing::write_number;
 use standing::stands;
+use tag::tag_of;
 
 // The last component moved into the row i, so that its room is used again. The row that it leaves stays as it was.
 fn move_last(s: &mut [u8], i: usize, last: usize) -> bool
@@ -23,12 +22,10 @@ fn move_last(s: &mut [u8], i: usize, last: usize) -> bool
     if i == last {
         return true;
     }
-    let read = component_in_row(s, last);
-    let ComponentRead::Component(c) = read else {
+    let Some(c) = component_in_row(s, last) else {
         return false;
     };
-    let u = read_text(s, 64 + 88 * last);
-    let t = tag::tag_of(u);
+    let t = tag_of(read_text(s, 64 + 88 * last));
     put_entry(s, i, t, c);
     true
 }
@@ -43,19 +40,14 @@ pub fn remove_component_in(s: &mut [u8], tag: &[u8]) -> bool
     if 32 < tag.len() {
         return false;
     }
-    let i = component_row_of(s, tag);
-    if 64 <= i {
+    let Some(i) = Table::Components.row_of(s, tag) else {
         return false;
-    }
-    let last = component_count(s) - 1;
+    };
+    let last = Table::Components.count(s) - 1;
     if !move_last(s, i, last) {
         return false;
     }
     write_number(s, 8, last as u64);
-    let cleared = Place {
-        assigned: false,
-        tag: tag::empty_tag(),
-    };
-    swap_places(s, tag, cleared);
+    swap_places(s, tag, None);
     true
 }

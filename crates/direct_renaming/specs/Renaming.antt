@@ -1,5 +1,5 @@
 -- What the helpers of rename_component_in promise. Definitions only.
-use Rattle.std.specs.Prelude.{ℕ, ◌≤◌, ◌<◌, min, ◌≡◌, ◌≢◌, List, length}
+use Rattle.std.specs.Prelude.{ℕ, ◌≤◌, ◌<◌, min, ◌≡◌, ◌≢◌, List, length, Option, Some, None}
 use Rattle.std.proofs.Math.Option.{some}
 use Rattle.tag.specs.Tags.{Tag}
 use Rattle.layout.specs.Words.{word, text}
@@ -15,9 +15,9 @@ pub record Renamable (s : List ℕ) (t u : Tag) (r : ℕ) : Type 0 where
   pub short_new : length u ≤ 32
   pub free : (i : ℕ) → i < min (word s 8) 64 → text s (component_at i) ≢ u
   pub free-list : (j : ℕ) → j < min (word s 16) 128 → text s (list_place_at j) ≢ u
-  pub row : RowSought s component_at (min (word s 8) 64) 64 t r
+  pub row : RowSought s component_at (min (word s 8) 64) t (Some r)
 
--- the list in the row j is under the tag u; there is no other change, and none where there is no such row
-pub record ListRenamed (j : ℕ) (u : Tag) (s v : List ℕ) : Type 0 where
-  pub wrote : j < 128 → Wrote (λ x. tag_in x (list_place_at j)) (some u) (list_place_at j) 40 s v
-  pub past : 128 ≤ j → v ≡ s
+-- the list in a row is under the tag u; there is no other change, and none where there is no such row
+abbrev pub ListRenamed : Option ℕ → Tag → List ℕ → List ℕ → Type 0
+ListRenamed (Some j) u s v = Wrote (λ x. tag_in x (list_place_at j)) (some u) (list_place_at j) 40 s v
+ListRenamed None u s v = v ≡ s

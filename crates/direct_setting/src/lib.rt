@@ -4,10 +4,8 @@
 ghost use Rattle.model.specs.Edit.{set_parameter, done};
 ghost use Rattle.direct_rows.specs.Took.{Takes};
 
-use component::model_component::Setting;
 use component::parameter::Data;
-use component_layout::component_words::ComponentRead;
-use finding::{component_in_row, component_row_of};
+use finding::{Table, component_in_row};
 use rows::writing::write_component;
 use standing::stands;
 
@@ -20,16 +18,13 @@ pub fn set_parameter_in(s: &mut [u8], tag: &[u8], name: &[u8], data: Data) -> bo
     if 32 < tag.len() {
         return false;
     }
-    let i = component_row_of(s, tag);
-    if 64 <= i {
-        return false;
-    }
-    let read = component_in_row(s, i);
-    let ComponentRead::Component(c) = read else {
+    let Some(i) = Table::Components.row_of(s, tag) else {
         return false;
     };
-    let set = parameter_setting::set_parameter(c, name, data);
-    let Setting::Changed(k) = set else {
+    let Some(c) = component_in_row(s, i) else {
+        return false;
+    };
+    let Ok(k) = parameter_setting::set_parameter(c, name, data) else {
         return false;
     };
     write_component(s, 104 + 88 * i, k);

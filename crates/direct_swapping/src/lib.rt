@@ -5,7 +5,7 @@ ghost use Rattle.std.specs.Prelude.{◌≡◌, ◌+◌, ◌≤◌, ◌<◌, leng
 ghost use Rattle.model.specs.View.{place_of};
 ghost use Rattle.direct_swapping.specs.Swapping.{NamesTag, PlaceSwapped, ListSwapped, ListsSwapped, Swapped};
 
-use finding::list_count;
+use finding::Table;
 use layout::words::read_word;
 use model::implicit_model::Place;
 use rows::writing::write_place;
@@ -45,10 +45,8 @@ fn swap_list(s: &mut [u8], j: usize, t: &[u8], p: Place)
     ensures { ListSwapped t.now (place_of p) j s.old s.new }
 {
     let n = at_most(read_word(s, 5736 + 168 * j) as usize, 3);
-    let mut k: usize = 0;
-    while k < n {
+    for k in 0..n {
         swap_place(s, 5744 + 168 * j + 40 * k, t, p);
-        k += 1;
     }
 }
 
@@ -56,11 +54,8 @@ fn swap_lists(s: &mut [u8], t: &[u8], p: Place)
     requires { length s.old ≡ 27200 }
     ensures { ListsSwapped t.now (place_of p) s.old s.new }
 {
-    let n = list_count(s);
-    let mut j: usize = 0;
-    while j < n {
+    for j in 0..Table::Lists.count(s) {
         swap_list(s, j, t, p);
-        j += 1;
     }
 }
 

@@ -8,19 +8,19 @@ ghost use Rattle.direct_wiring.specs.Placing.{PlacesIn};
 
 use direct::clear::is_clear;
 use direct_rows::put::put_place;
-use finding::{component_row_of, list_row_of};
+use finding::Table;
 use layout::words::read_word;
 use model::implicit_model::Place;
 use standing::{stands, wired};
+use tag::Tag;
 
 // Writes one place of the list of a tag; says no where there is no such place.
 fn place_in(s: &mut [u8], tag: &[u8], index: usize, p: Place) -> bool
     ensures { PlacesIn tag.now index (place_of p) s.old s.new result }
 {
-    let j = list_row_of(s, tag);
-    if 128 <= j {
+    let Some(j) = Table::Lists.row_of(s, tag) else {
         return false;
-    }
+    };
     if read_word(s, 5736 + 168 * j) <= index as u64 {
         return false;
     }
@@ -37,43 +37,29 @@ pub fn remove_input_in(s: &mut [u8], tag: &[u8], index: usize) -> bool
     if 32 < tag.len() {
         return false;
     }
-    let t = tag::empty_tag();
-    let p = Place {
-        assigned: false,
-        tag: t,
-    };
-    place_in(s, tag, index, p)
+    place_in(s, tag, index, None)
 }
 
 pub fn add_input_in(s: &mut [u8], target: &[u8], source: &[u8], index: usize) -> bool
     ensures { Takes (add_input target.now source.now index) done s.old s.new result }
 {
-    let standing = wired(s);
-    if !standing.ok {
+    let Some(standing) = wired(s) else {
         return false;
-    }
+    };
     if 32 < target.len() {
         return false;
     }
-    if 32 < source.len() {
+    let Ok(t) = Tag::try_from(source) else {
         return false;
-    }
-    let i = component_row_of(s, target);
-    if 64 <= i {
-        return false;
-    }
-    let k = component_row_of(s, source);
-    if 64 <= k {
-        return false;
-    }
-    let w = standing.wires;
-    if !is_clear(&w, standing.n, i, k) {
-        return false;
-    }
-    let t = tag::tag_of(source);
-    let p = Place {
-        assigned: true,
-        tag: t,
     };
-    place_in(s, target, index, p)
+    let Some(i) = Table::Components.row_of(s, target) else {
+        return false;
+    };
+    let Some(k) = Table::Components.row_of(s, source) else {
+        return false;
+    };
+    if !is_clear(&standing.wires, standing.count(), i, k) {
+        return false;
+    }
+    place_in(s, target, index, Some(t))
 }

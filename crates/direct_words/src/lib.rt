@@ -1,17 +1,17 @@
 // Edits made in the bytes whose component or inputs come in words. Words of no kind are left to the edit of the record, which refuses them.
 #![tactic(auto)]
 
-ghost use Rattle.tag.specs.View.{bytes_of};
-ghost use Rattle.model.specs.Edit.{add_operation, made};
+ghost use Rattle.model.specs.Edit.{add_operation};
 ghost use Rattle.edit_rows.specs.EditRows.{given};
-ghost use Rattle.direct_rows.specs.Took.{Takes};
+ghost use Rattle.direct_rows.specs.Took.{Makes};
 ghost use Rattle.word_edits.specs.Edits.{component_edit};
 
 use component::model_component::Component;
-use component_layout::component_words::{ComponentRead, component_from};
-use direct_adding::Added;
+use component_layout::component_numbers::ComponentWords;
+use component_layout::component_words::component_from;
 use direct_component::add_component_in;
 use direct_operation::add_operation_in;
+use tag::Tag;
 
 pub fn add_component_in_of(
     s: &mut [u8],
@@ -22,18 +22,20 @@ pub fn add_component_in_of(
     c: u64,
     d: u64,
     e: u64,
-) -> Added
-    ensures { Takes (component_edit tag.now kind a b c d e) (made (bytes_of result.tag)) s.old s.new result.ok }
+) -> Option<Tag>
+    ensures { Makes (component_edit tag.now kind a b c d e) s.old s.new result }
 {
-    let read = component_from(kind, a, b, c, d, e);
-    if let ComponentRead::Component(found) = read {
-        return add_component_in(s, tag, found);
-    }
-    let none = tag::empty_tag();
-    Added {
-        ok: false,
-        tag: none,
-    }
+    let Some(component) = component_from(ComponentWords {
+        kind,
+        a,
+        b,
+        c,
+        d,
+        e,
+    }) else {
+        return None;
+    };
+    add_component_in(s, tag, component)
 }
 
 // The inputs of a word: 0 is none given, else their count and 1.
@@ -45,8 +47,8 @@ pub fn add_operation_in_with(
     first: &[u8],
     second: &[u8],
     third: &[u8],
-) -> Added
-    ensures { Takes (add_operation tag.now op (given count first.now second.now third.now)) (made (bytes_of result.tag)) s.old s.new result.ok }
+) -> Option<Tag>
+    ensures { Makes (add_operation tag.now op (given count first.now second.now third.now)) s.old s.new result }
 {
     if count == 0 {
         return add_operation_in(s, tag, op, false, 0, first, second, third);

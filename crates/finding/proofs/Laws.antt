@@ -1,3 +1,3 @@
--- `Loops`: one more row. `Rows`: what is found in the rows.
+-- `Loops`: one more entry stored. `Rows`: the row that is sought.
 pub mod Loops
 pub mod Rows

@@ -1,22 +1,41 @@
 -- Rows of a model in bytes: where they begin, what they hold, and what is found in them. Definitions only.
-use Rattle.std.specs.Prelude.{ℕ, ◌+◌, ◌*◌, ◌≤◌, ◌<◌, ◌≡◌, ◌≢◌, List}
+use Rattle.std.specs.Prelude.{ℕ, ◌+◌, ◌*◌, ◌<◌, ◌≡◌, ◌≢◌, min, List, Option as Answer, IfSome, IfNone}
 use Rattle.std.proofs.Math.Option.{Option}
 use Rattle.tag.specs.Tags.{Tag}
 use Rattle.component.specs.declared.model_component.Component.{Component}
-use Rattle.layout.specs.Words.{text}
+use Rattle.layout.specs.Words.{word, text}
 use Rattle.component_layout.specs.Components.{component_from}
-use Rattle.component_layout.specs.declared.component_numbers.ComponentWords.{ComponentWords}
+use Rattle.component_layout.specs.declared.component_numbers.Numbered.{Numbered}
 use Rattle.rows.specs.Rows.{six_in}
+use Rattle.finding.specs.declared.Table.{Table}
+use Rattle.finding.specs.declared.Table.TheVariants.{Components, Lists}
 
--- where a row of each table begins
+-- where the first row of a table begins, and the bytes of a row
+abbrev pub start : Table → ℕ
+start Components = 64
+start Lists = 5696
+
+abbrev pub size : Table → ℕ
+size Components = 88
+size Lists = 168
+
+-- where a row begins
+abbrev pub row_at : Table → ℕ → ℕ
+row_at table i = start table + size table * i
+
 abbrev pub component_at : ℕ → ℕ
 component_at i = 64 + 88 * i
 
 abbrev pub list_place_at : ℕ → ℕ
 list_place_at j = 5696 + 168 * j
 
+-- how many rows are counted, as far as the table goes
+abbrev pub counted : Table → List ℕ → ℕ
+counted Components s = min (word s 8) 64
+counted Lists s = min (word s 16) 128
+
 -- the component of six words
-abbrev pub from_six : ComponentWords → Option Component
+abbrev pub from_six : Numbered ℕ → Option Component
 from_six w = component_from w.kind w.a w.b w.c w.d w.e
 
 -- the component in the row i
@@ -27,7 +46,7 @@ component_row s i = from_six (six_in s (104 + 88 * i))
 abbrev pub tag_of : List ℕ → ℕ → Tag
 tag_of s i = text s (component_at i)
 
--- the row of the tag t among the first n, which begin at `at`; `cap` where none of them has it
-pub record RowSought (s : List ℕ) (at : ℕ → ℕ) (n cap : ℕ) (t : Tag) (r : ℕ) : Type 0 where
-  pub found : r < cap → (r < n) × (text s (at r) ≡ t)
-  pub missing : cap ≤ r → (i : ℕ) → i < n → text s (at i) ≢ t
+-- the row of the tag t among the first n, which begin at `at`
+pub record RowSought (s : List ℕ) (at : ℕ → ℕ) (n : ℕ) (t : Tag) (row : Answer ℕ) : Type 0 where
+  pub found : IfSome row (λ r. (r < n) × (text s (at r) ≡ t))
+  pub missing : IfNone row ((i : ℕ) → i < n → text s (at i) ≢ t)

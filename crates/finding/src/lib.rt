@@ -1,75 +1,83 @@
-// The rows of a model in bytes: a component or a list found by its tag, and the component in a row.
+// The rows of a model in bytes: a row found by its tag, and the component in a row.
 #![tactic(auto)]
 
-ghost use Rattle.std.specs.Prelude.{◌≡◌, ◌<◌, min};
-ghost use Rattle.layout.specs.Words.{word};
+ghost use Rattle.std.specs.Prelude.{◌≡◌, ◌<◌};
 ghost use Rattle.component_layout.specs.Components.{component_read};
-ghost use Rattle.finding.specs.Rows.{component_at, list_place_at, component_row, RowSought};
+ghost use Rattle.finding.specs.Rows.{start, size, counted, row_at, component_row, RowSought};
 
-use component_layout::component_words::{ComponentRead, component_from};
+use component::model_component::Component;
+use component_layout::component_numbers::ComponentWords;
+use component_layout::component_words::component_from;
 use layout::words::{read_text, read_word};
 use tag::at_most;
 use tag::bytes::same_bytes;
 
-// How many components the bytes count.
-pub fn component_count(s: &[u8]) -> usize
-    ensures { result ≡ min (word s.now 8) 64 }
-{
-    at_most(read_word(s, 8) as usize, 64)
+// A table of rows in the bytes of a model. Each row begins with its tag.
+#[derive(Clone, Copy)]
+pub enum Table {
+    Components,
+    Lists,
 }
 
-// How many lists the bytes count.
-pub fn list_count(s: &[u8]) -> usize
-    ensures { result ≡ min (word s.now 16) 128 }
-{
-    at_most(read_word(s, 16) as usize, 128)
-}
-
-// The row of the component with that tag; 64 where there is none.
-pub fn component_row_of(s: &[u8], t: &[u8]) -> usize
-    ensures { RowSought s.now component_at (min (word s.now 8) 64) 64 t.now result }
-{
-    let n = component_count(s);
-    let mut i: usize = 0;
-    while i < n {
-        let u = read_text(s, 64 + 88 * i);
-        if same_bytes(u, t) {
-            return i;
+impl Table {
+    // Where the first row begins.
+    pub fn start(self) -> usize
+        ensures { result ≡ start self }
+    {
+        match self {
+            Table::Components => 64,
+            Table::Lists => 5696,
         }
-        i += 1;
     }
-    64
-}
 
-// The row of the list with that tag; 128 where there is none.
-pub fn list_row_of(s: &[u8], t: &[u8]) -> usize
-    ensures { RowSought s.now list_place_at (min (word s.now 16) 128) 128 t.now result }
-{
-    let n = list_count(s);
-    let mut i: usize = 0;
-    while i < n {
-        let u = read_text(s, 5696 + 168 * i);
-        if same_bytes(u, t) {
-            return i;
+    // The bytes of a row.
+    pub fn size(self) -> usize
+        ensures { result ≡ size self }
+    {
+        match self {
+            Table::Components => 88,
+            Table::Lists => 168,
         }
-        i += 1;
     }
-    128
+
+    // How many rows the bytes count, as far as the table goes.
+    pub fn count(self, s: &[u8]) -> usize
+        ensures { result ≡ counted self s.now }
+    {
+        match self {
+            Table::Components => at_most(read_word(s, 8) as usize, 64),
+            Table::Lists => at_most(read_word(s, 16) as usize, 128),
+        }
+    }
+
+    // The row with that tag.
+    pub fn row_of(self, s: &[u8], t: &[u8]) -> Option<usize>
+        ensures { RowSought s.now (row_at self) (counted self s.now) t.now result }
+    {
+        for i in 0..self.count(s) {
+            if same_bytes(read_text(s, self.start() + self.size() * i), t) {
+                return Some(i);
+            }
+        }
+        None
+    }
 }
 
 // The component in a row.
-pub fn component_in_row(s: &[u8], i: usize) -> ComponentRead
+#[tactic(auto, unfolding(crate::specs::Rows::component_row))]
+pub fn component_in_row(s: &[u8], i: usize) -> Option<Component>
     ensures { i < 64 → component_read result ≡ component_row s.now i }
 {
     if 64 <= i {
-        return ComponentRead::NoComponent;
+        return None;
     }
     let at = 104 + 88 * i;
-    let kind = read_word(s, at);
-    let a = read_word(s, at + 8);
-    let b = read_word(s, at + 16);
-    let c = read_word(s, at + 24);
-    let d = read_word(s, at + 32);
-    let e = read_word(s, at + 40);
-    component_from(kind, a, b, c, d, e)
+    component_from(ComponentWords {
+        kind: read_word(s, at),
+        a: read_word(s, at + 8),
+        b: read_word(s, at + 16),
+        c: read_word(s, at + 24),
+        d: read_word(s, at + 32),
+        e: read_word(s, at + 40),
+    })
 }

@@ -3,122 +3,132 @@
 
 mod names;
 
-ghost use Rattle.std.specs.Prelude.{◌≡◌, true, false, ◌+◌, ◌≤◌, ◌<◌, length};
-ghost use Rattle.standing.specs.Standing.{Named, PlaceNamed, Listing, Listed, Owners, Filled, DefaultNamed, Wire, Wires, Stands, Passing};
+ghost use Rattle.std.specs.Prelude.{◌≡◌, true, ◌+◌, ◌*◌, ◌≤◌, ◌<◌, get_or, IfSome};
+ghost use Rattle.layout.specs.Words.{word};
+ghost use Rattle.standing.specs.Standing.{Names, PlaceNames, Listing, Filled, DefaultNamed, Stood, Owned, Wires, Stands, Passing};
 
-use crate::names::{are_apart, component_keys, key, list_keys, position_of};
-use component::model_component::input_count;
-use component_layout::component_words::ComponentRead;
-use finding::component_in_row;
+use crate::names::{Keys, key};
+use finding::{Table, component_in_row};
 use layout::words::{read_text, read_word};
 use model_holding::holds::holds;
 use tag::bytes::same_bytes;
 
-// The component of the first n whose tag is t, by its key k; 65 where the key does not tell.
-fn component_named(s: &[u8], keys: &[u64; 128], n: usize, k: u64, t: &[u8]) -> usize
-    requires { n ≤ 64 }
-    ensures { Named s.now n t.now result }
-{
-    let i = position_of(keys, n, k);
-    if n <= i {
-        return 65;
-    }
-    let u = read_text(s, 64 + 88 * i);
-    if same_bytes(u, t) {
-        return i;
-    }
-    65
-}
-
-// The same by the tag alone; 65 too where n is past the table.
-pub fn component_of_tag(s: &[u8], keys: &[u64; 128], n: usize, t: &[u8]) -> usize
-    ensures { Named s.now n t.now result }
-{
-    if 64 < n {
-        return 65;
-    }
-    component_named(s, keys, n, key(t, 0), t)
-}
-
-// The component that a place names; 65 where it is unassigned, or names none.
-fn place_named(s: &[u8], keys: &[u64; 128], n: usize, at: usize) -> usize
-    requires { (n ≤ 64) × ((length s.now ≡ 27200) × (at + 40 ≤ 27200)) }
-    ensures { PlaceNamed s.now n at result }
-{
-    let len = read_word(s, at);
-    if len == 0 {
-        return 65;
-    }
-    if 33 < len {
-        return 65;
-    }
-    let k = key(s, at + 8);
-    let start = at + 8;
-    let end = at + 7 + len as usize;
-    component_named(s, keys, n, k, &s[start..end])
-}
-
-// The list of the component at i, whose key is k; 128 where there is none, 129 where the key does not tell.
-fn list_of(s: &[u8], keys: &[u64; 128], n: usize, k: u64, i: usize) -> usize
-    requires { (n ≤ 128) × (i < 64) }
-    ensures { Listing s.now keys.now n k i result }
-{
-    let j = position_of(keys, n, k);
-    if n <= j {
-        return 128;
-    }
-    let l = read_text(s, 5696 + 168 * j);
-    let t = read_text(s, 64 + 88 * i);
-    if same_bytes(l, t) {
-        return j;
-    }
-    129
-}
-
-// Whether the component at i has in the list o as many places as it takes inputs.
-fn is_listed(s: &[u8], i: usize, o: usize) -> bool
-    requires { i < 64 }
-    ensures { result ≡ true → Listed s.now i o }
-{
-    let read = component_in_row(s, i);
-    let ComponentRead::Component(c) = read else {
-        return false;
-    };
-    let n = input_count(c);
-    if n == 0 {
-        return true;
-    }
-    if 128 <= o {
-        return false;
-    }
-    read_word(s, 5736 + 168 * o) == n as u64
-}
-
+// What stands in a place of a component's list.
 #[derive(Clone, Copy)]
-pub struct Owning {
-    pub ok: bool,
-    pub at: [usize; 64],
+pub enum Wire {
+    // It is unassigned, or no component is found that it names.
+    Open,
+    // There is no such place.
+    Past,
+    // The component in this row.
+    To(u8),
 }
 
-// The lists of the first n components.
-fn owners(s: &[u8], components: &[u64; 128], lists: &[u64; 128], n: usize, k: usize) -> Owning
-    requires { (n ≤ 64) × (k ≤ 128) }
-    ensures { result.ok ≡ true → Owners s.now components.now lists.now n k result.at }
-{
-    let mut at = [128usize; 64];
-    let mut i: usize = 0;
-    while i < n {
-        let o = list_of(s, lists, k, components[i], i);
-        if 128 < o {
-            return Owning { ok: false, at };
+// A key that is found is another tag's: whether the tag is there, the keys do not tell.
+#[derive(Clone, Copy)]
+struct Untold;
+
+// The components of a model in bytes, by the keys of their tags.
+#[derive(Clone, Copy)]
+struct Components<'a> {
+    bytes: &'a [u8],
+    keys: &'a Keys,
+}
+
+impl<'a> Components<'a> {
+    // The row with that tag, whose key is given.
+    fn keyed(&self, key: u64, tag: &[u8]) -> Option<usize>
+        ensures { IfSome result (Names self.now.bytes.now self.now.keys.now.count tag.now) }
+    {
+        let i = self.keys.row_of(key)?;
+        if same_bytes(read_text(self.bytes, 64 + 88 * i), tag) {
+            Some(i)
+        } else {
+            None
         }
-        if !is_listed(s, i, o) {
-            return Owning { ok: false, at };
-        }
-        at[i] = o;
-        i += 1;
     }
-    Owning { ok: true, at }
+
+    // The row of the component that a place names.
+    fn named_at(&self, at: usize) -> Option<usize>
+        requires { at < 27200 }
+        ensures { IfSome result (PlaceNames self.now.bytes.now self.now.keys.now.count at) }
+    {
+        let len = read_word(self.bytes, at) as usize;
+        if len == 0 || 33 < len {
+            return None;
+        }
+        let tag = self.bytes.get(at + 8..at + 7 + len)?;
+        self.keyed(key(self.bytes, at + 8), tag)
+    }
+
+    // Whether the default is none, or names a component.
+    fn default_stands(&self) -> bool
+        ensures { result ≡ true → DefaultNamed self.now.bytes.now self.now.keys.now.count }
+    {
+        read_word(self.bytes, 24) == 0 || self.named_at(24).is_some()
+    }
+
+    // The list of the component in a row.
+    fn list_of(&self, lists: &Keys, i: usize) -> Result<Option<usize>, Untold>
+        requires { i < 128 }
+        ensures { Listing self.now.bytes.now lists.now.of lists.now.count (get_or self.now.keys.now.of i 0) i result }
+    {
+        let Some(j) = lists.row_of(self.keys.of[i]) else {
+            return Ok(None);
+        };
+        let list = read_text(self.bytes, 5696 + 168 * j);
+        let component = read_text(self.bytes, 64 + 88 * i);
+        if same_bytes(list, component) {
+            Ok(Some(j))
+        } else {
+            Err(Untold)
+        }
+    }
+
+    // The component in a place of a list, which has so many.
+    fn wire(&self, list: usize, places: u64, p: usize) -> Wire
+        requires { (list < 128) × (p < 3) × (places ≡ word self.now.bytes.now (5736 + 168 * list)) }
+        ensures { Stood self.now.bytes.now self.now.keys.now.count list p result }
+    {
+        if places <= p as u64 {
+            return Wire::Past;
+        }
+        match self.named_at(5744 + 168 * list + 40 * p) {
+            Some(row) => Wire::To(row as u8),
+            None => Wire::Open,
+        }
+    }
+
+    // The wires of the component in a row, where its list has as many places as it takes inputs.
+    fn wires_of(&self, lists: &Keys, i: usize) -> Option<[Wire; 3]>
+        requires { i < 64 }
+        ensures { IfSome result (Owned self.now.bytes.now self.now.keys.now.count lists.now.of lists.now.count (get_or self.now.keys.now.of i 0) i) }
+    {
+        let n = component_in_row(self.bytes, i)?.input_count();
+        let Some(list) = self.list_of(lists, i).ok()? else {
+            return if n == 0 { Some([Wire::Past; 3]) } else { None };
+        };
+        let places = read_word(self.bytes, 5736 + 168 * list);
+        if n != 0 && places != n as u64 {
+            return None;
+        }
+        let first = self.wire(list, places, 0);
+        let second = self.wire(list, places, 1);
+        let third = self.wire(list, places, 2);
+        Some([first, second, third])
+    }
+
+    // The wires of all.
+    fn wires(&self, lists: &Keys) -> Option<[[Wire; 3]; 64]>
+        requires { self.now.keys.now.count ≤ 64 }
+        ensures { IfSome result (Wires self.now.bytes.now self.now.keys.now.count lists.now.of lists.now.count self.now.keys.now.of) }
+    {
+        let mut wires = [[Wire::Past; 3]; 64];
+        for i in 0..self.keys.count {
+            wires[i] = self.wires_of(lists, i)?;
+        }
+        Some(wires)
+    }
 }
 
 // Whether each of the first n lists has a place.
@@ -126,117 +136,61 @@ fn are_filled(s: &[u8], n: usize) -> bool
     requires { n ≤ 128 }
     ensures { result ≡ true → Filled s.now n }
 {
-    let mut j: usize = 0;
-    while j < n {
-        if read_word(s, 5736 + 168 * j) == 0 {
-            return false;
-        }
-        j += 1;
-    }
-    true
+    (0..n).all(|j| read_word(s, 5736 + 168 * j) != 0)
 }
 
-// Whether the default is none, or names one of the first n components.
-fn default_stands(s: &[u8], keys: &[u64; 128], n: usize) -> bool
-    requires { (n ≤ 64) × (length s.now ≡ 27200) }
-    ensures { result ≡ true → DefaultNamed s.now n }
-{
-    if read_word(s, 24) == 0 {
-        return true;
-    }
-    place_named(s, keys, n, 24) < 64
-}
-
-// The component in the place p of the list o; 64 where there is no such place, 65 where it is unassigned or names none.
-fn wire(s: &[u8], keys: &[u64; 128], n: usize, o: usize, p: usize) -> usize
-    requires { (n ≤ 64) × ((length s.now ≡ 27200) × (p < 3)) }
-    ensures { Wire s.now n o p result }
-{
-    if 128 <= o {
-        return 64;
-    }
-    if read_word(s, 5736 + 168 * o) <= p as u64 {
-        return 64;
-    }
-    let v = place_named(s, keys, n, 5744 + 168 * o + 40 * p);
-    if v < 64 { v } else { 65 }
-}
-
-// The wires of the first n components, three each.
-fn wires(s: &[u8], keys: &[u64; 128], n: usize, owners: &[usize; 64]) -> [usize; 192]
-    requires { (n ≤ 64) × (length s.now ≡ 27200) }
-    ensures { Wires s.now n owners.now result }
-{
-    let mut w = [64usize; 192];
-    let mut q: usize = 0;
-    while q < n * 3 {
-        w[q] = wire(s, keys, n, owners[q / 3], q % 3);
-        q += 1;
-    }
-    w
-}
-
-// The components' keys and wires, and how many they are.
+// The components of a model that 7 lets pass, by the keys of their tags, and three wires for each.
 #[derive(Clone, Copy)]
 pub struct Standing {
-    pub ok: bool,
-    pub keys: [u64; 128],
-    pub wires: [usize; 192],
-    pub n: usize,
+    keys: Keys,
+    pub wires: [[Wire; 3]; 64],
+    ghost few: { keys.count ≤ 64 },
 }
 
-fn not_standing() -> Standing
-    ensures { result.ok ≡ false }
-{
-    Standing {
-        ok: false,
-        keys: [0u64; 128],
-        wires: [64usize; 192],
-        n: 0,
+impl Standing {
+    // How many components there are.
+    pub fn count(&self) -> usize
+        ensures { result ≡ self.now.keys.count }
+    {
+        self.keys.count
+    }
+
+    // The row of a tag in the model's bytes.
+    pub fn row_of(&self, bytes: &[u8], tag: &[u8]) -> Option<usize>
+        ensures { IfSome result (Names bytes.now self.now.keys.count tag.now) }
+    {
+        let keys = &self.keys;
+        let components = Components { bytes, keys };
+        components.keyed(key(tag, 0), tag)
     }
 }
 
 // A model that 7 lets pass, with its wires.
-pub fn wired(s: &[u8]) -> Standing
-    ensures { result.ok ≡ true → Stands s.now result.n result.wires }
+pub fn wired(s: &[u8]) -> Option<Standing>
+    ensures { IfSome result (λ w. Stands s.now w.keys.count w.wires) }
 {
     if !holds(s) {
-        return not_standing();
+        return None;
     }
-    let n = read_word(s, 8) as usize;
-    let k = read_word(s, 16) as usize;
-    let keys = component_keys(s, n);
-    if !are_apart(&keys, n) {
-        return not_standing();
+    let keys = Keys::read(s, Table::Components);
+    let lists = Keys::read(s, Table::Lists);
+    if !keys.are_apart() || !lists.are_apart() || !are_filled(s, lists.count) {
+        return None;
     }
-    let lists = list_keys(s, k);
-    if !are_apart(&lists, k) {
-        return not_standing();
+    let components = Components {
+        bytes: s,
+        keys: &keys,
+    };
+    if !components.default_stands() {
+        return None;
     }
-    let owning = owners(s, &keys, &lists, n, k);
-    if !owning.ok {
-        return not_standing();
-    }
-    if !are_filled(s, k) {
-        return not_standing();
-    }
-    if !default_stands(s, &keys, n) {
-        return not_standing();
-    }
-    let at = owning.at;
-    let w = wires(s, &keys, n, &at);
-    Standing {
-        ok: true,
-        keys,
-        wires: w,
-        n,
-    }
+    let wires = components.wires(&lists)?;
+    Some(Standing { keys, wires })
 }
 
 // Whether the bytes hold a model that 7 lets pass. A yes is right.
 pub fn stands(s: &[u8]) -> bool
     ensures { result ≡ true → Passing s.now }
 {
-    let standing = wired(s);
-    standing.ok
+    wired(s).is_some()
 }

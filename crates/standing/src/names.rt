@@ -1,11 +1,13 @@
 // Tags in bytes, by a number each, their key: tags with unequal keys are unequal.
-ghost use Rattle.std.specs.Prelude.{◌≡◌, true, ◌+◌, ◌≤◌, ◌<◌};
-ghost use Rattle.finding.specs.Rows.{component_at, list_place_at};
-ghost use Rattle.standing.specs.Names.{key_in, Keys, Sought, Apart};
+ghost use Rattle.std.specs.Prelude.{◌≡◌, true, ◌≤◌, ◌<◌};
+ghost use Rattle.finding.specs.Rows.{counted, row_at};
+ghost use Rattle.standing.specs.Names.{key_in, Keyed, Sought, Apart};
 
+use finding::Table;
 use layout::words::read_word;
 
 // The key of the 32 bytes at a place. No sum wraps.
+#[tactic(auto, unfolding(crate::specs::Names::key_in))]
 pub(crate) fn key(s: &[u8], at: usize) -> u64
     requires { at < 0x8000 }
     ensures { result ≡ key_in s.now at }
@@ -17,61 +19,44 @@ pub(crate) fn key(s: &[u8], at: usize) -> u64
     a + 3 * b + 5 * c + 7 * d
 }
 
-// The keys of the first n components' tags.
-pub(crate) fn component_keys(s: &[u8], n: usize) -> [u64; 128]
-    requires { n ≤ 64 }
-    ensures { Keys s.now component_at n result }
-{
-    let mut keys = [0u64; 128];
-    let mut i: usize = 0;
-    while i < n {
-        keys[i] = key(s, 72 + 88 * i);
-        i += 1;
-    }
-    keys
+// The keys of the tags in the rows of a table.
+// Kept: an array with its count, since there is no heap.
+#[derive(Clone, Copy)]
+pub struct Keys {
+    pub(crate) of: [u64; 128],
+    pub(crate) count: usize,
+    ghost few: { count ≤ 128 },
 }
 
-// The keys of the first n lists' tags.
-pub(crate) fn list_keys(s: &[u8], n: usize) -> [u64; 128]
-    requires { n ≤ 128 }
-    ensures { Keys s.now list_place_at n result }
-{
-    let mut keys = [0u64; 128];
-    let mut i: usize = 0;
-    while i < n {
-        keys[i] = key(s, 5704 + 168 * i);
-        i += 1;
-    }
-    keys
-}
-
-// Where a key stands among the first n; n where it does not.
-pub(crate) fn position_of(keys: &[u64; 128], n: usize, k: u64) -> usize
-    requires { n ≤ 128 }
-    ensures { Sought keys.now n k result }
-{
-    let mut i: usize = 0;
-    while i < n {
-        if keys[i] == k {
-            return i;
+impl Keys {
+    // Of the rows that are counted.
+    pub(crate) fn read(s: &[u8], table: Table) -> Keys
+        ensures { (result.count ≡ counted table s.now) × Keyed s.now (row_at table) result.count result.of }
+    {
+        let mut of = [0u64; 128];
+        let count = table.count(s);
+        for i in 0..count {
+            of[i] = key(s, table.start() + 8 + table.size() * i);
         }
-        i += 1;
+        Keys { of, count }
     }
-    n
-}
 
-// Whether no two of the first n keys are the same.
-pub(crate) fn are_apart(keys: &[u64; 128], n: usize) -> bool
-    requires { n ≤ 128 }
-    ensures { result ≡ true → Apart keys.now n }
-{
-    let mut i: usize = 0;
-    while i < n {
-        let k = keys[i];
-        if position_of(keys, i, k) < i {
-            return false;
-        }
-        i += 1;
+    // The row of a key.
+    pub(crate) fn row_of(&self, key: u64) -> Option<usize>
+        ensures { Sought self.now.of self.now.count key result }
+    {
+        self.of[..self.count].iter().position(|k| *k == key)
     }
-    true
+
+    // Whether no two are the same.
+    pub(crate) fn are_apart(&self) -> bool
+        ensures { result ≡ true → Apart self.now.of self.now.count }
+    {
+        for i in 0..self.count {
+            if self.of[..i].contains(&self.of[i]) {
+                return false;
+            }
+        }
+        true
+    }
 }

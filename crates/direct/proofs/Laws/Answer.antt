@@ -9,10 +9,11 @@ use Rattle.model.specs.Form.{Number, bits, Evaluated, number}
 use Rattle.model.proofs.Theorems.Compile.{compiles_short}
 use Rattle.model.proofs.Theorems.Worked.{number_compiles}
 use Rattle.finding.specs.Rows.{tag_of}
+use Rattle.standing.specs.declared.Wire.{Wire}
 use Rattle.standing.specs.Standing.{Names, Stands}
 use Rattle.direct.specs.Evaluate.{EvaluatesIn}
 
-pub answered : {s : List ℕ} {n : ℕ} {w : List ℕ} {t : Tag} {r : ℕ} {x y z v : Float} {b : ℕ} (g : Stands s n w) → Names s n t r
+pub answered : {s : List ℕ} {n : ℕ} {w : List (List Wire)} {t : Tag} {r : ℕ} {x y z v : Float} {b : ℕ} (g : Stands s n w) → Names s n t r
     → Number g.model (record { x = x; y = y; z = z }) (tag_of s r) v → b ≡ to_bits binary64 v → EvaluatesIn s t x y z b
 answered {t = t} {x = x} {y = y} {z = z} {v = v} g q k e =
     let p : Vec3 = record { x = x; y = y; z = z } in

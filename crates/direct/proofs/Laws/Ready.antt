@@ -1,38 +1,39 @@
 -- A component whose places are served: which components they name. Assumes nothing.
-use Prim.Native.Nat.{ℕ, zero, suc, ◌+◌, ◌*◌, ◌<◌}
+use Prim.Native.Nat.{ℕ, zero, suc, ◌<◌}
 use native.Mathlib.Omega.{arith}
-use mathlib.Core.Path.{◌≡◌, subst}
-use mathlib.Core.Logic.{inl, inr}
+use mathlib.Core.Path.{◌≡◌, refl}
+use mathlib.Core.Bool.{Bool, true, false}
 use mathlib.Core.List.{List}
 use mathlib.Core.Option.{none, some}
-use lib.ListN.{length, get_or}
+use lib.ListN.{length, get_or, replicate}
 use Rattle.model.specs.Model.{Place, inputs}
 use Rattle.finding.specs.Rows.{tag_of}
-use Rattle.standing.specs.Standing.{Stands}
+use Rattle.standing.specs.declared.Wire.{Wire}
+use Rattle.standing.specs.declared.Wire.TheVariants.{To, Past, Open}
+use Rattle.standing.specs.Standing.{wire_at, Leads, Stands}
 use Rattle.direct.specs.Along.{Served, Ready}
 
-pub served : {w done : List ℕ} {n x : ℕ} → Ready w done n x → (q : ℕ) → q < 3 → Served done (get_or w (x * 3 + q) 0)
-served {w} {done} {n} {x} r zero h = subst (λ (i : ℕ). Served done (get_or w i 0)) (let z : x * 3 ≡ x * 3 + 0 = omega arith in z) r.first
-served r (suc zero) h = r.second
-served r (suc (suc zero)) h = r.third
-served r (suc (suc (suc q))) h = absurd (let z : ⊥ = omega arith in z)
+-- what stands at first in each place
+pub at_first : {A : Type 0} (d : A) (n i : ℕ) → get_or (replicate n d) i d ≡ d
+at_first d zero i = refl
+at_first d (suc n) zero = refl
+at_first d (suc n) (suc i) = at_first d n i
 
--- the place q names the component at v, one of n, which is done
-pub record Serves (s done : List ℕ) (n : ℕ) (l : List Place) (q v : ℕ) : Type 0 where
-  pub few : v < 64
-  pub below : v < n
-  pub marked : get_or done v 0 ≡ 1
-  pub named : get_or l q none ≡ some (tag_of s v)
+-- the place q names a component, one of n, which is done
+pub record Serves (s : List ℕ) (done : List Bool) (n : ℕ) (l : List Place) (q : ℕ) : Type 0 where
+  pub row : ℕ
+  pub below : row < n
+  pub marked : get_or done row false ≡ true
+  pub named : get_or l q none ≡ some (tag_of s row)
 
-pub serves : {s w done : List ℕ} {n x : ℕ} → Ready w done n x → (g : Stands s n w) → (q : ℕ) → q < length (inputs g.model (tag_of s x))
-    → Serves s done n (inputs g.model (tag_of s x)) q (get_or w (x * 3 + q) 0)
-serves {s} {w} {done} {n} {x} r g q h = go (served r q three_at_most)
+pub serves : {s : List ℕ} {w : List (List Wire)} {done : List Bool} {n x : ℕ} → Ready w done n x → (g : Stands s n w) → (q : ℕ) → q < length (inputs g.model (tag_of s x))
+    → Serves s done n (inputs g.model (tag_of s x)) q
+serves {s} {w} {done} {n} {x} r g q h = go (wire_at w x q) (g.wired x q r.below three_at_most) (r.each q three_at_most)
   where
     three_at_most : q < 3
     three_at_most = omega (arith, g.short x r.below)
 
-    go : Served done (get_or w (x * 3 + q) 0) → Serves s done n (inputs g.model (tag_of s x)) q (get_or w (x * 3 + q) 0)
-    go (inl e) = absurd (let z : ⊥ = omega (arith, (g.wired x q r.below three_at_most).past e) in z)
-    go (inr (l, d)) =
-        let v = (g.wired x q r.below three_at_most).named l in
-        record { few = l; below = v.0; marked = d; named = v.2 }
+    go : (v : Wire) → Leads s n (inputs g.model (tag_of s x)) q v → Served done v → Serves s done n (inputs g.model (tag_of s x)) q
+    go (To v) l d = record { row = v; below = l.0; marked = d; named = l.2 }
+    go Past l d = absurd (let z : ⊥ = omega (arith, l) in z)
+    go Open l d = absurd d

@@ -1,15 +1,16 @@
 -- An operation added in the bytes. Assumes nothing.
-use Prim.Native.Nat.{ℕ, ◌<◌, ◌≤◌, min}
+use Rattle.std.specs.Prelude.{Option as Answer}
+use Prim.Native.Nat.{ℕ, ◌<◌, ◌≤◌}
 use native.Mathlib.Omega.{arith}
 use mathlib.Core.Path.{◌≡◌, sym, ap, subst, ◌∙◌}
 use mathlib.Core.Bool.{Bool, true, false, not, ◌||◌}
 use mathlib.Core.List.{List}
 use mathlib.Core.Option.{Option, none}
 use lib.Dec.{eqb}
-use lib.ListN.{length, take}
+use lib.ListN.{length}
 use Rattle.tag.specs.declared.Tag.{Tag as Label}
 use Rattle.tag.specs.Tags.{Tag, empty, overlong}
-use Rattle.tag.specs.View.{bytes_of, Labelled, Made}
+use Rattle.tag.specs.View.{Labelled}
 use Rattle.component.specs.Kind.{is_operation}
 use Rattle.component.specs.Value.{input_count}
 use Rattle.component.specs.declared.model_component.Component.{Component}
@@ -17,21 +18,16 @@ use Rattle.model.specs.declared.implicit_model.InputList.{InputList}
 use Rattle.model.specs.Table.{any, find, held}
 use Rattle.model.specs.Model.{Place, Model}
 use Rattle.model.specs.Edit.{add_operation, made, edit, full, lists_full, with_operation, looked_at, new_places, add_op}
-use Rattle.edit.proofs.Laws.Tests.{short, labelled}
 use Rattle.input_rows.specs.Inputs.{inputs_of, fitting, Short, asked, RowOf}
 use Rattle.input_rows.proofs.Laws.Inputs.{count_is, asked_are, asked-short}
 use Rattle.adding_operation.proofs.Laws.Operation.{few_inputs}
-use Rattle.layout.specs.Words.{word}
-use Rattle.finding.specs.Rows.{component_at, RowSought}
 use Rattle.standing.specs.Standing.{Passing}
-use Rattle.direct_rows.specs.Took.{Takes}
-use Rattle.direct_rows.proofs.Laws.Parts.{whole}
-use Rattle.direct_rows.proofs.Laws.Found.{component-missing, unheld}
+use Rattle.direct_rows.specs.Took.{Makes}
+use Rattle.direct_rows.proofs.Laws.Found.{unheld}
 use Rattle.direct_rows.proofs.Laws.Written.{pass}
-use Rattle.direct_adding.specs.declared.Added.{Added}
 use Rattle.direct_adding.proofs.Laws.Edits.{has_room}
 use Rattle.direct_operation.specs.Listed.{Listed}
-use Rattle.direct_operation.proofs.Laws.Listed.{listed-takes}
+use Rattle.direct_operation.proofs.Laws.Listed.{listed-makes}
 
 -- the outcome where nothing refuses it
 operation_is : (m : Model) (t : Tag) (c : Component) (ts : Option (List Tag)) → overlong t ≡ false → any overlong (looked_at ts) ≡ false → is_operation c ≡ true → find t m.components ≡ none
@@ -50,14 +46,12 @@ asked_row c given n a b d {x} {row} k e s f r =
     let h : k ≤ 3 = omega (arith, few_inputs c) in
     subst (λ (i : ℕ). RowOf x (asked given i a b d) row) e (r h (asked-short given n k a b d s f h))
 
-module _ (t : Tag) (c : Component) (given : Bool) (n : ℕ) (a b d : Tag) {s u : List ℕ} (k : Passing s) (st : length t ≤ 32) (sh : any overlong (looked_at (inputs_of given n a b d)) ≡ false)
-    (op : is_operation c ≡ true) (fit : fitting given n (input_count c) ≡ true) (x : Label) (mx : Made (take 32 t) x) {r : ℕ} (q : RowSought s component_at (min (word s 8) 64) 64 t r) (h : 64 ≤ r) where
-  pub operation_listed : {row : InputList} {v : Added} → RowOf x (asked given (input_count c) a b d) row → Listed c row x s u v → Takes (add_operation t c (inputs_of given n a b d)) (made (bytes_of v.tag)) s u v.ok
-  operation_listed {row} ro w =
-      let lt : Labelled t x = labelled st mx in
-      let o = component-missing (whole k.is) q h in
+module _ (t : Tag) (c : Component) (given : Bool) (n : ℕ) (a b d : Tag) {s : List ℕ} (u : List ℕ) (k : Passing s) (short : overlong t ≡ false) (sh : any overlong (looked_at (inputs_of given n a b d)) ≡ false)
+    (op : is_operation c ≡ true) (fit : fitting given n (input_count c) ≡ true) (x : Label) (lt : Labelled t x) (o : find t k.model.components ≡ none) where
+  pub operation_listed : (row : InputList) (v : Answer Label) → RowOf x (asked given (input_count c) a b d) row → Listed c row x s u v → Makes (add_operation t c (inputs_of given n a b d)) s u v
+  operation_listed row v ro w =
       let e = add_operation t c (inputs_of given n a b d) in
       let ps = new_places c (inputs_of given n a b d) in
-      listed-takes k e (subst (λ (qs : List Place). RowOf x qs row) (asked_are given n c a b d (few_inputs c) fit) ro) (ap (λ (y : Tag). find y k.model.components) lt.bytes ∙ o)
+      listed-makes k e x _ row c x u v (subst (λ (qs : List Place). RowOf x qs row) (asked_are given n c a b d (few_inputs c) fit) ro) (ap (λ (y : Tag). find y k.model.components) lt.bytes ∙ o)
       (λ z y. subst (λ (v : Tag). edit e k.model ≡ record { answer = made v; model = with_operation k.model v c ps v }) (sym lt.bytes)
-      (operation_is k.model t c (inputs_of given n a b d) (short t st) sh op o (count_is given n c a b d ∙ fit) z (ap (lists_full k.model) (sym lt.bytes) ∙ y))) w
+      (operation_is k.model t c (inputs_of given n a b d) short sh op o (count_is given n c a b d ∙ fit) z (ap (lists_full k.model) (sym lt.bytes) ∙ y))) w

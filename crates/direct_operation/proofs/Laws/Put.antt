@@ -1,9 +1,10 @@
 -- The model in the bytes after the list of a new operation is written. Assumes nothing.
+use Rattle.std.specs.Prelude.{Some}
 use Prim.Native.Nat.{ℕ, ◌+◌, ◌*◌, ◌≤◌, ◌<◌}
 use native.Mathlib.Omega.{arith}
 use native.Mathlib.Decide.{dec_lt}
-use mathlib.Core.Path.{◌≡◌, sym, ap, subst, ◌∙◌}
-use mathlib.Core.Logic.{◌≢◌}
+use mathlib.Core.Path.{◌≡◌, sym, subst, ◌∙◌}
+use mathlib.Core.Logic.{◌≢◌, inl, inr}
 use mathlib.Core.List.{List, [], ◌∷◌, ◌++◌}
 use mathlib.Core.Option.{none}
 use lib.Dec.{T}
@@ -100,19 +101,14 @@ module _ {s v : List ℕ} {m : Model} (j : ℕ) {t : Tag} {ps : List Place} (w :
       }
 
 -- in the row that was chosen for it
-pub list_put : {s u : List ℕ} {m : Model} {j : ℕ} {t : Tag} {ps : List Place} → Whole s m → T (distinct m.lists) → RowFor s t j → j < 128 → RowPut j t ps s u → ListPut m t ps s u
-list_put {s} {u} {m} {j} {t} {ps} w h f l p = go (dec_lt f.row 128)
-  where
-    go : Dec (f.row < 128) → ListPut m t ps s u
-    go (yes a) =
-        let q = list-found w ([], []) f.sought a in
-        let e = f.over a in
-        let b : j < word s 16 = omega (arith, q.0) in
-        over-put j w (p.over b) ([], []) h b (ap (λ (i : ℕ). (get_or m.lists i ([], [])).0) e ∙ q.1)
-    go (no a) =
-        let e : j ≡ word s 16 = omega (arith, f.next (omega arith), w.few_lists) in
-        let q = p.more (omega arith) in
-        more-put j w q.1 q.2 h e l (list-missing w f.sought (omega arith))
+pub list_put : {s u : List ℕ} {m : Model} {j : ℕ} {t : Tag} {ps : List Place} → Whole s m → T (distinct m.lists) → RowFor s t (Some j) → RowPut j t ps s u → ListPut m t ps s u
+list_put {j = j} w h (inl f) p =
+    let q = list-found w ([], []) f in
+    over-put j w (p.over q.0) ([], []) h q.0 q.1
+list_put {s} {j = j} w h (inr (f, (c, l))) p =
+    let e : j ≡ word s 16 = omega (arith, c, w.few_lists) in
+    let q = p.more (omega (arith, e)) in
+    more-put j w q.1 q.2 h e l (list-missing w f)
 
 -- one change after another: what both leave alone
 pub spares_then : {n k n' k' : ℕ} {s t u : List ℕ} → Spares n k s t → Spares n' k' t u → n ≤ n' → k ≤ k' → Spares n' k' s u

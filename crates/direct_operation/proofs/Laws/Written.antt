@@ -1,18 +1,16 @@
 -- What the writes of a new list promise, and which row it is for. Assumes nothing.
 use Prim.Native.Nat.{ℕ, ◌+◌, ◌≤◌, ◌<◌, min}
 use native.Mathlib.Omega.{arith}
-use mathlib.Core.Path.{◌≡◌, refl}
+use mathlib.Core.Path.{◌≡◌}
 use mathlib.Core.List.{List}
 use lib.ListN.{length}
-use Rattle.tag.specs.Tags.{Tag}
 use Rattle.tag.specs.View.{bytes_of}
 use Rattle.model.specs.declared.implicit_model.InputList.{InputList}
 use Rattle.layout.specs.Words.{word}
 use Rattle.rows.specs.Rows.{places_of}
 use Rattle.rows.specs.Written.{Writes}
-use Rattle.finding.specs.Rows.{list_place_at, RowSought}
 use Rattle.direct_rows.specs.Rows.{PutList}
-use Rattle.direct_operation.specs.Put.{RowPut, RowFor}
+use Rattle.direct_operation.specs.Put.{RowPut}
 
 module _ (l : InputList) {s v : List ℕ} {j k : ℕ} (size : length s ≡ 27200) (h : j < 128) (few : l.count ≤ 3) (e : k ≡ min (word s 16) 128) (p : PutList j l s v) where
   pub row_over : j < k → RowPut j (bytes_of l.tag) (places_of l.count l) s v
@@ -22,10 +20,3 @@ module _ (l : InputList) {s v : List ℕ} {j k : ℕ} (size : length s ≡ 27200
   row_next a q =
       let w = p.wrote size h few in
       record { over = λ b. absurd (let z : ⊥ = omega arith in z); more = λ b. (v, w, q.wrote (omega (arith, w.kept.size))) }
-
-module _ {s : List ℕ} {t : Tag} {r : ℕ} (q : RowSought s list_place_at (min (word s 16) 128) 128 t r) where
-  pub for_found : r < 128 → RowFor s t r
-  for_found h = record { row = r; sought = q; over = λ _. refl; next = λ k. absurd (let z : ⊥ = omega arith in z) }
-
-  pub for_next : 128 ≤ r → {k : ℕ} → k ≡ min (word s 16) 128 → RowFor s t k
-  for_next h e = record { row = r; sought = q; over = λ k. absurd (let z : ⊥ = omega arith in z); next = λ _. e }

@@ -1,4 +1,5 @@
 -- Each way out of `remove_component_in`. Assumes nothing.
+use Rattle.std.specs.Prelude.{Some, None}
 use Prim.Native.Nat.{ℕ, suc, ◌+◌, ◌*◌, ◌-◌, ◌≤◌, ◌<◌, min}
 use native.Mathlib.Omega.{arith}
 use native.Mathlib.Decide.{dec_lt, ℕ_discrete}
@@ -18,7 +19,7 @@ use Rattle.tag.proofs.Laws.View.{length-short, made_whole}
 use Rattle.component.specs.declared.model_component.Component.{Component}
 use Rattle.component.specs.declared.model_component.Component.TheVariants.{Add}
 use Rattle.model.specs.Table.{held, find, each}
-use Rattle.model.specs.Model.{Place, Model, valid}
+use Rattle.model.specs.Model.{Model, valid}
 use Rattle.model.specs.View.{place_of}
 use Rattle.model.specs.Edit.{remove_component, done, Outcome, check, swap, without, remove, edit, apply}
 use Rattle.model.proofs.Laws.Bool.{T→true}
@@ -92,10 +93,6 @@ removes m t {c} v h f =
     ∙ ap (λ (b : Bool). check m b 1 empty 0 (check m (not (held t m.components)) 12 t 0 o)) (length-short t h)
     ∙ ap (λ (b : Bool). check m (not b) 12 t 0 o) (T→true (held t m.components) (found-held t m.components (c, f)))
 
-pub cleared : (l : Label) → place_of (record { assigned = false; tag = l }) ≡ none
-unfolding place_of
-cleared l = refl
-
 -- any row: what stands past a table
 beyond : Tag × Component
 beyond = ([], Add)
@@ -161,30 +158,30 @@ module _ {s v w : List ℕ} {m : Model} {i k : ℕ} (g : Whole s m) (size : word
       past x a (yes e) = ap (λ (y : List ℕ). get_or y x 0) (f.same e)
       past x a (no n) = f.kept.above x (omega (arith, n))
 
-module _ {s : List ℕ} (t : Tag) {i n k : ℕ} (b : Passing s) (short : length t ≤ 32) (q : RowSought s component_at (min (word s 8) 64) 64 t i) (h : i < 64)
+module _ {s : List ℕ} (t : Tag) {i n k : ℕ} (b : Passing s) (short : length t ≤ 32) (q : RowSought s component_at (min (word s 8) 64) t (Some i))
     (c : n ≡ min (word s 8) 64) (e : k ≡ n - 1) where
   g : Whole s b.model
   g = whole b.is
 
   found : (i < word s 8) × ((get_or b.model.components i beyond).0 ≡ t)
-  found = component-found g beyond q h
+  found = component-found g beyond q
 
   size : word s 8 ≡ suc k
   size = omega (arith, found.0, c, e, g.few)
 
-  pub remove-done : {v w u : List ℕ} {p : Place} {r : Bool} → r ≡ true → LastMoved i k s v r → Writes (λ x. word x 8) k 8 8 v w → p ≡ none → Swapped t p w u → Took (remove_component t) done s u
-  remove-done {v} {w} {u} {p} {r} y f low z a =
+  pub remove-done : {v w u : List ℕ} {r : Bool} → r ≡ true → LastMoved i k s v r → Writes (λ x. word x 8) k 8 8 v w → Swapped t (place_of None) w u → Took (remove_component t) done s u
+  unfolding place_of
+  remove-done {v} {w} {u} {r} y f low a =
       let m = b.model in
       let once = (good m b.sound).once in
       let l : i < length m.components = omega (arith, components-length g, found.0) in
       let x = removes m t b.sound short (ap (λ (y : Tag). find y m.components) (sym found.1) ∙ find_at beyond m.components i once l) in
       let f' : LastMoved i k s v true = subst (LastMoved i k s v) y f in
-      let a' : Swapped t none w u = subst (λ (o : Place). Swapped t o w u) z a in
       let whole-w = lowered_whole g size (omega (arith, found.0, size)) f' low in
       let fewer = take k (set m.components i (get_or m.components k beyond)) in
       let long : length fewer ≡ k = omega (arith, length-take k (set m.components i (get_or m.components k beyond)), length-set m.components i (get_or m.components k beyond), components-length g, size) in
-      took (remove_component t) b.is b.sound (ap (λ (o : Outcome). o.answer) x) (swapped_whole whole-w a')
+      took (remove_component t) b.is b.sound (ap (λ (o : Outcome). o.answer) x) (swapped_whole whole-w a)
       (subst (λ (o : Outcome). Becomes o.model.components fewer) (sym x) (removed beyond m.components i k t once l found.1 (components-length g ∙ size)))
       (subst (λ (o : Outcome). Becomes o.model.lists (each (map (swap t none)) m.lists)) (sym x) (becomes_each (map (swap t none)) (becomes_refl (good m b.sound).once-lists)))
       (ap (λ (o : Outcome). o.model.default) x)
-      (swapped_spares whole-w a' (subst (λ (j : ℕ). Spares j (length m.lists) s w) (sym long) (lowered_spares g size (omega (arith, found.0, size)) f' low)))
+      (swapped_spares whole-w a (subst (λ (j : ℕ). Spares j (length m.lists) s w) (sym long) (lowered_spares g size (omega (arith, found.0, size)) f' low)))

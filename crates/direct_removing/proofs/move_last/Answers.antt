@@ -1,9 +1,8 @@
 -- `move_last` meets its contract. Assumes nothing.
-use mathlib.Core.Path.{sym, ap, subst, ◌∙◌}
+use mathlib.Core.Path.{subst}
 use lib.ListN.{take}
 use Rattle.tag.specs.Tags.{Tag}
 use Rattle.tag.specs.View.{Made}
-use Rattle.component_layout.specs.Components.{component_read}
 use Rattle.direct_removing.proofs.Laws.Removing.{moved-itself, moved_nothing, moved-over}
 use Rattle.direct_removing.proofs.move_last.Goals as goal
 
@@ -15,7 +14,6 @@ returns-in_default c = moved_nothing
 
 pub returns : goal.returns
 returns c =
-    moved-over c.tag_of-t.result c.in-Component.c c.requires.0 c.requires.1.0 c.if-i-last.false
-    (sym (ap component_read c.in-Component.is) ∙ c.component_in_row-read.ensures c.requires.1.1)
-    (subst (λ (x : Tag). Made (take 32 x) c.tag_of-t.result) c.read_text-u.ensures c.tag_of-t.ensures)
+    moved-over c.tag_of-t.result c.in-Some.c c.requires.0 c.requires.1.0 c.if-i-last.false (c.in-Some.ensures c.requires.1.1)
+    (subst (λ (x : Tag). Made (take 32 x) c.tag_of-t.result) c.read_text.ensures c.tag_of-t.ensures)
     c.put_entry.ensures

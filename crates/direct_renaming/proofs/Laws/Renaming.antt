@@ -1,7 +1,7 @@
 -- Each way out of `rename_component_in`. Assumes nothing.
+use Rattle.std.specs.Prelude.{Option, Some, None, IfSome}
 use Prim.Native.Nat.{ℕ, ◌+◌, ◌*◌, ◌≤◌, ◌<◌, min}
 use native.Mathlib.Omega.{arith}
-use native.Mathlib.Decide.{dec_lt}
 use mathlib.Core.Path.{◌≡◌, refl, sym, ap, subst, ◌∙◌}
 use mathlib.Core.Bool.{Bool, true, not}
 use mathlib.Core.List.{List, [], map}
@@ -25,7 +25,8 @@ use Rattle.layout.specs.Words.{word}
 use Rattle.rows.specs.Rows.{tag_in}
 use Rattle.rows.specs.Written.{Writes}
 use Rattle.model_bytes.specs.Calls.{Spares}
-use Rattle.finding.specs.Rows.{list_place_at, RowSought}
+use Rattle.finding.specs.Rows.{component_at, list_place_at, RowSought}
+use Rattle.standing.specs.Standing.{Passing}
 use Rattle.direct_rows.specs.Took.{Took}
 use Rattle.direct_rows.proofs.Laws.Parts.{Whole, whole}
 use Rattle.direct_rows.proofs.Laws.Found.{components-length, lists_length, component-found, component-missing, list-found, list-missing, unheld}
@@ -64,65 +65,59 @@ record Moved (t u : Tag) (m : Model) (cs : Table Component) (r v : List ℕ) : T
   becomes : Becomes (move t u m.lists) lists
   spares : Spares (length cs) (length lists) r v
 
-module _ {t u : Tag} {m : Model} {cs : Table Component} {r s v : List ℕ} {j : ℕ} (start : Whole r m) (g : Whole s (record { components = cs; lists = m.lists; default = m.default }))
-    (once : T (distinct m.lists)) (q : RowSought r list_place_at (min (word r 16) 128) 128 t j) (n : find u m.lists ≡ none) (f : ListRenamed j u s v)
-    (k : Spares (length cs) (length m.lists) r s) where
-  list-moved : Moved t u m cs r v
-  list-moved = go (dec_lt j 128)
-    where
-      go : Dec (j < 128) → Moved t u m cs r v
-      go (yes h) =
-          let a = list-found start beyond_lists q h in
-          let l : j < word s 16 = omega (arith, a.0, lists_length start, lists_length g) in
-          record {
-            lists = set m.lists j (u, (get_or m.lists j beyond_lists).1);
-            whole = list_tagged g u beyond_lists l (f.wrote h);
-            becomes = move-free beyond_lists m.lists j t u once (omega (arith, a.0, lists_length start)) a.1 n;
-            spares = list-spares g u beyond_lists l (f.wrote h) k;
-          }
-      go (no h) =
-          let e = f.past (omega arith) in
-          record {
-            lists = m.lists;
-            whole = subst (λ (x : List ℕ). Whole x (record { components = cs; lists = m.lists; default = m.default })) (sym e) g;
-            becomes = move-nothing t u m.lists (list-missing start q (omega arith)) once;
-            spares = subst (λ (x : List ℕ). Spares (length cs) (length m.lists) r x) (sym e) k;
-          }
+module _ {t u : Tag} {m : Model} {cs : Table Component} {r s v : List ℕ} (start : Whole r m) (g : Whole s (record { components = cs; lists = m.lists; default = m.default }))
+    (once : T (distinct m.lists)) (n : find u m.lists ≡ none) (k : Spares (length cs) (length m.lists) r s) where
+  list-moved : (row : Option ℕ) → RowSought r list_place_at (min (word r 16) 128) t row → ListRenamed row u s v → Moved t u m cs r v
+  list-moved (Some j) q f =
+      let a = list-found start beyond_lists q in
+      let l : j < word s 16 = omega (arith, a.0, lists_length start, lists_length g) in
+      record {
+        lists = set m.lists j (u, (get_or m.lists j beyond_lists).1);
+        whole = list_tagged g u beyond_lists l f;
+        becomes = move-free beyond_lists m.lists j t u once (omega (arith, a.0, lists_length start)) a.1 n;
+        spares = list-spares g u beyond_lists l f k;
+      }
+  list-moved None q e = record {
+    lists = m.lists;
+    whole = subst (λ (x : List ℕ). Whole x (record { components = cs; lists = m.lists; default = m.default })) (sym e) g;
+    becomes = move-nothing t u m.lists (list-missing start q) once;
+    spares = subst (λ (x : List ℕ). Spares (length cs) (length m.lists) r x) (sym e) k;
+  }
 
 -- ---- renamed
 
-pub named : (l : Label) → place_of (record { assigned = true; tag = l }) ≡ some (bytes_of l)
+named : (l : Label) → place_of (Some l) ≡ some (bytes_of l)
 unfolding place_of
 named l = refl
 
-module _ {s : List ℕ} (t u : Tag) {i j : ℕ} (b : Renamable s t u i) (h : i < 64) (q : RowSought s list_place_at (min (word s 16) 128) 128 t j) where
-  done : {v w x : List ℕ} → Writes (λ y. tag_in y (64 + 88 * i)) (some u) (64 + 88 * i) 40 s v → ListRenamed j u v w → Swapped t (some u) w x → Took (rename_component t u) (made u) s x
+module _ {s : List ℕ} (t u : Tag) {i : ℕ} (b : Renamable s t u i) (row : Option ℕ) (q : RowSought s list_place_at (min (word s 16) 128) t row) where
+  done : {v w x : List ℕ} → Writes (λ y. tag_in y (64 + 88 * i)) (some u) (64 + 88 * i) 40 s v → ListRenamed row u v w → Swapped t (some u) w x → Took (rename_component t u) (made u) s x
   done {v} {w} {x} p f a =
       let m = b.passing.model in
       let valid-m = b.passing.sound in
       let g : Whole s m = whole b.passing.is in
-      let here = component-found g beyond b.row h in
+      let here = component-found g beyond b.row in
       let once = (good m valid-m).once in
       let once-lists = (good m valid-m).once-lists in
       let l : i < length m.components = omega (arith, components-length g, here.0) in
-      let missing = component-missing g (record { found = λ z. absurd (let y : ⊥ = omega arith in y); missing = λ z. b.free }) (let y : 64 ≤ 64 = omega arith in y) in
-      let missing-list = list-missing g (record { found = λ z. absurd (let y : ⊥ = omega arith in y); missing = λ z. b.free-list }) (let y : 128 ≤ 128 = omega arith in y) in
+      let missing = component-missing g (record { found = tt; missing = b.free }) in
+      let missing-list = list-missing g (record { found = tt; missing = b.free-list }) in
       let e = renames m t u valid-m b.short b.short_new missing (ap (λ (y : Tag). find y m.components) (sym here.1) ∙ find_at beyond m.components i once l) in
       let wrote = p.wrote (omega (arith, g.size)) in
       let cs = set m.components i (u, (get_or m.components i beyond).1) in
-      let d = list-moved g (entry_tagged g u beyond here.0 wrote) once-lists q missing-list f (entry-spares g u beyond here.0 wrote) in
+      let d = list-moved g (entry_tagged g u beyond here.0 wrote) once-lists missing-list (entry-spares g u beyond here.0 wrote) row q f in
       took (rename_component t u) b.passing.is valid-m (ap (λ (o : Outcome). o.answer) e) (swapped_whole d.whole a)
       (subst (λ (o : Outcome). Becomes o.model.components cs) (sym e) (move-free beyond m.components i t u once l here.1 missing))
       (subst (λ (o : Outcome). Becomes o.model.lists (each (map (swap t (some u))) d.lists)) (sym e) (becomes_each (map (swap t (some u))) d.becomes))
       (ap (λ (o : Outcome). o.model.default) e)
       (swapped_spares d.whole a d.spares)
 
-  pub rename-done : {v w x : List ℕ} (l : Label) → Made (take 32 u) l → Writes (λ y. tag_in y (64 + 88 * i)) (some (bytes_of l)) (64 + 88 * i) 40 s v → ListRenamed j (bytes_of l) v w
-      → Swapped t (place_of (record { assigned = true; tag = l })) w x → Took (rename_component t u) (made (bytes_of l)) s x
+  pub rename-done : {v w x : List ℕ} (l : Label) → Made (take 32 u) l → Writes (λ y. tag_in y (64 + 88 * i)) (some (bytes_of l)) (64 + 88 * i) 40 s v → ListRenamed row (bytes_of l) v w
+      → Swapped t (place_of (Some l)) w x → Took (rename_component t u) (made (bytes_of l)) s x
   rename-done {v} {w} {x} l k p f a =
       let e : bytes_of l ≡ u = (made_whole u l (length-short u b.short_new) k).labelled.bytes in
       subst (λ (y : Tag). Took (rename_component t u) (made y) s x) (sym e)
-      (done (subst (λ (y : Tag). Writes (λ z. tag_in z (64 + 88 * i)) (some y) (64 + 88 * i) 40 s v) e p) (subst (λ (y : Tag). ListRenamed j y v w) e f)
+      (done (subst (λ (y : Tag). Writes (λ z. tag_in z (64 + 88 * i)) (some y) (64 + 88 * i) 40 s v) e p) (subst (λ (y : Tag). ListRenamed row y v w) e f)
       (subst (λ (y : Place). Swapped t y w x) (named l ∙ ap some e) a))
 
   -- the bytes are a model's before the list is renamed
@@ -131,12 +126,12 @@ module _ {s : List ℕ} (t u : Tag) {i j : ℕ} (b : Renamable s t u i) (h : i <
 
 -- ---- what the helpers answer
 
-pub nothing-renamed : {X : Type 0} → 64 < 64 → X
-nothing-renamed h = absurd (let z : ⊥ = omega arith in z)
+pub renamable : {s : List ℕ} {t u : Tag} (row : Option ℕ) → Passing s → length t ≤ 32 → length u ≤ 32 → RowSought s component_at (min (word s 8) 64) u None → RowSought s list_place_at (min (word s 16) 128) u None
+    → RowSought s component_at (min (word s 8) 64) t row → IfSome row (Renamable s t u)
+renamable (Some r) p a b c d q = record { passing = p; short = a; short_new = b; free = c.missing; free-list = d.missing; row = q }
+renamable None p a b c d q = tt
 
-module _ {j : ℕ} {u : Tag} {s : List ℕ} where
-  pub list-renamed : {v : List ℕ} → length s ≡ 27200 → j < 128 → Writes (λ x. tag_in x (5696 + 168 * j)) (some u) (5696 + 168 * j) 40 s v → ListRenamed j u s v
-  list-renamed e h w = record { wrote = λ l. w.wrote (omega (arith, e)); past = λ l. absurd (let z : ⊥ = omega arith in z) }
-
-  pub list-past : 128 ≤ j → ListRenamed j u s s
-  list-past h = record { wrote = λ l. absurd (let z : ⊥ = omega arith in z); past = λ l. refl }
+-- a row that was found is one of the table
+pub below : {s : List ℕ} {t : Tag} (row : Option ℕ) → RowSought s list_place_at (min (word s 16) 128) t row → IfSome row (λ j. j < 128)
+below {s} (Some j) q = let h : j < min (word s 16) 128 = q.found.0 in omega arith
+below None q = tt

@@ -1,8 +1,9 @@
 -- What a search by tag shows of the model, and what its rows hold. Assumes nothing.
-use Prim.Native.Nat.{ℕ, ◌≤◌, ◌<◌, min}
+use Rattle.std.specs.Prelude.{Option as Answer, Some, None, is_some}
+use Prim.Native.Nat.{ℕ, ◌<◌, min}
 use native.Mathlib.Omega.{arith}
 use mathlib.Core.Path.{◌≡◌, refl, sym, ap, ◌∙◌}
-use mathlib.Core.Bool.{Bool, true, false}
+use mathlib.Core.Bool.{Bool, true, false, true≢false}
 use mathlib.Core.List.{List}
 use mathlib.Core.Option.{none, some}
 use lib.Dec.{T}
@@ -27,6 +28,11 @@ unheld t r e = go (held t r) refl
     go : (b : Bool) → held t r ≡ b → b ≡ false
     go true q = none_some (sym e ∙ (held-true t r q).1)
     go false q = refl
+
+-- a search that is asked only whether it found a row
+pub unsought : {s : List ℕ} {at : ℕ → ℕ} {n : ℕ} {t : Tag} {b : Bool} (r : Answer ℕ) → RowSought s at n t r → b ≡ is_some r → b ≡ false → RowSought s at n t None
+unsought None q e n = q
+unsought (Some r) q e n = absurd (true≢false (sym e ∙ n))
 
 module _ {s : List ℕ} {m : Model} (w : Whole s m) where
   -- ---- counts
@@ -53,31 +59,31 @@ module _ {s : List ℕ} {m : Model} (w : Whole s m) where
 
   -- ---- by tag
 
-  pub component-found : (d : Tag × Component) {t : Tag} {r : ℕ} → RowSought s component_at (min (word s 8) 64) 64 t r → r < 64 → (r < word s 8) × ((get_or m.components r d).0 ≡ t)
-  component-found d {t} {r} q h =
-      let f = q.found h in
+  pub component-found : (d : Tag × Component) {t : Tag} {r : ℕ} → RowSought s component_at (min (word s 8) 64) t (Some r) → (r < word s 8) × ((get_or m.components r d).0 ≡ t)
+  component-found d {t} {r} q =
+      let f = q.found in
       let l : r < word s 8 = omega (arith, f.0) in
       (l, sym (entry_at d r l).tag.is ∙ f.1)
 
-  pub component-missing : {t : Tag} {r : ℕ} → RowSought s component_at (min (word s 8) 64) 64 t r → 64 ≤ r → find t m.components ≡ none
-  component-missing {t} q h = built_none w.components t (λ i x l e p. q.missing h i (omega (arith, w.few)) ((entry_shows s i x e).tag.is ∙ p))
+  pub component-missing : {t : Tag} → RowSought s component_at (min (word s 8) 64) t None → find t m.components ≡ none
+  component-missing {t} q = built_none w.components t (λ i x l e p. q.missing i (omega (arith, w.few)) ((entry_shows s i x e).tag.is ∙ p))
 
-  pub list-found : (d : Tag × List Place) {t : Tag} {r : ℕ} → RowSought s list_place_at (min (word s 16) 128) 128 t r → r < 128 → (r < word s 16) × ((get_or m.lists r d).0 ≡ t)
-  list-found d {t} {r} q h =
-      let f = q.found h in
+  pub list-found : (d : Tag × List Place) {t : Tag} {r : ℕ} → RowSought s list_place_at (min (word s 16) 128) t (Some r) → (r < word s 16) × ((get_or m.lists r d).0 ≡ t)
+  list-found d {t} {r} q =
+      let f = q.found in
       let l : r < word s 16 = omega (arith, f.0) in
       (l, sym (list_at d r l).tag.is ∙ f.1)
 
-  pub list-missing : {t : Tag} {r : ℕ} → RowSought s list_place_at (min (word s 16) 128) 128 t r → 128 ≤ r → find t m.lists ≡ none
-  list-missing {t} q h = built_none w.lists t (λ i x l e p. q.missing h i (omega (arith, w.few_lists)) ((list_shows s i x e).tag.is ∙ p))
+  pub list-missing : {t : Tag} → RowSought s list_place_at (min (word s 16) 128) t None → find t m.lists ≡ none
+  list-missing {t} q = built_none w.lists t (λ i x l e p. q.missing i (omega (arith, w.few_lists)) ((list_shows s i x e).tag.is ∙ p))
 
   -- what stands in the row is what the tag holds
-  pub component-held : (d : Tag × Component) {t : Tag} {r : ℕ} → T (distinct m.components) → RowSought s component_at (min (word s 8) 64) 64 t r → r < 64 → find t m.components ≡ some (get_or m.components r d).1
-  component-held d {t} {r} once q h =
-      let f = component-found d q h in
+  pub component-held : (d : Tag × Component) {t : Tag} {r : ℕ} → T (distinct m.components) → RowSought s component_at (min (word s 8) 64) t (Some r) → find t m.components ≡ some (get_or m.components r d).1
+  component-held d {t} {r} once q =
+      let f = component-found d q in
       ap (λ (a : Tag). find a m.components) (sym f.1) ∙ find_at d m.components r once (omega (arith, f.0, components-length))
 
-  pub list_held : (d : Tag × List Place) {t : Tag} {r : ℕ} → T (distinct m.lists) → RowSought s list_place_at (min (word s 16) 128) 128 t r → r < 128 → find t m.lists ≡ some (get_or m.lists r d).1
-  list_held d {t} {r} once q h =
-      let f = list-found d q h in
+  pub list_held : (d : Tag × List Place) {t : Tag} {r : ℕ} → T (distinct m.lists) → RowSought s list_place_at (min (word s 16) 128) t (Some r) → find t m.lists ≡ some (get_or m.lists r d).1
+  list_held d {t} {r} once q =
+      let f = list-found d q in
       ap (λ (a : Tag). find a m.lists) (sym f.1) ∙ find_at d m.lists r once (omega (arith, f.0, lists_length))

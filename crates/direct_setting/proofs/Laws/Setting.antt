@@ -1,4 +1,5 @@
 -- A parameter set in the bytes: the model that they then hold. Assumes nothing.
+use Rattle.std.specs.Prelude.{Ok, Some}
 use Prim.Native.Nat.{ℕ, ◌+◌, ◌*◌, ◌≤◌, ◌<◌, min}
 use native.Mathlib.Omega.{arith}
 use mathlib.Core.Path.{◌≡◌, sym, ap, subst, ◌∙◌}
@@ -11,7 +12,6 @@ use Rattle.tag.specs.Tags.{Tag, empty, overlong}
 use Rattle.tag.proofs.Laws.View.{length-short}
 use Rattle.component.specs.Parameter.{Name, set_parameter as parameterSet}
 use Rattle.component.specs.declared.parameter.Data.{Data}
-use Rattle.component.specs.declared.model_component.Setting.TheVariants.{Changed}
 use Rattle.component.specs.declared.model_component.Component.{Component}
 use Rattle.component.specs.declared.model_component.Component.TheVariants.{Constant}
 use Rattle.model.specs.Table.{Table, put, distinct}
@@ -49,7 +49,7 @@ blank : Tag × Component
 blank = ([], Constant nan)
 
 -- what the edit is, where the component of t becomes k
-set-edit : (m : Model) (t : Tag) (n : Name) (x : Data) {c k : Component} → length t ≤ 32 → component m t ≡ some c → parameterSet c n x ≡ Changed k
+set-edit : (m : Model) (t : Tag) (n : Name) (x : Data) {c k : Component} → length t ≤ 32 → component m t ≡ some c → parameterSet c n x ≡ Ok k
     → edit (set_parameter t n x) m ≡ record { answer = done; model = record { components = put t k m.components; lists = m.lists; default = m.default } }
 unfolding edit set_at
 set-edit m t n x {c} {k} short e p =
@@ -57,8 +57,8 @@ set-edit m t n x {c} {k} short e p =
     ∙ ap (λ (o : Option Component). set_in m t n x o) e
     ∙ ap (settle m t) p
 
-module _ {s t : List ℕ} (g : Passing s) (tag : Tag) (n : Name) (x : Data) (i : ℕ) (sought : RowSought s component_at (min (word s 8) 64) 64 tag i) (h : i < 64) (short : length tag ≤ 32)
-    (c k : Component) (row : component_row s i ≡ some c) (change : parameterSet c n x ≡ Changed k) (writes : Writes (λ u. component_in u (104 + 88 * i)) (some k) (104 + 88 * i) 48 s t) where
+module _ {s t : List ℕ} (g : Passing s) (tag : Tag) (n : Name) (x : Data) (i : ℕ) (sought : RowSought s component_at (min (word s 8) 64) tag (Some i)) (short : length tag ≤ 32)
+    (c k : Component) (row : component_row s i ≡ some c) (change : parameterSet c n x ≡ Ok k) (writes : Writes (λ u. component_in u (104 + 88 * i)) (some k) (104 + 88 * i) 48 s t) where
   w : Whole s g.model
   w = whole g.is
 
@@ -69,13 +69,13 @@ module _ {s t : List ℕ} (g : Passing s) (tag : Tag) (n : Name) (x : Data) (i :
   once = (good g.model g.sound).once
 
   at : (i < word s 8) × ((get_or g.model.components i blank).0 ≡ tag)
-  at = component-found w blank sought h
+  at = component-found w blank sought
 
   below : i < length g.model.components
   below = omega (arith, at.0, components-length w)
 
   found : component g.model tag ≡ some c
-  found = component-held w blank once sought h ∙ sym (entry_at w blank i at.0).component ∙ row
+  found = component-held w blank once sought ∙ sym (entry_at w blank i at.0).component ∙ row
 
   result : apply (set_parameter tag n x) g.model ≡ record { answer = done; model = record { components = put tag k g.model.components; lists = g.model.lists; default = g.model.default } }
   result = applied (set_parameter tag n x) g.model g.sound ∙ set-edit g.model tag n x short found change

@@ -22,7 +22,7 @@ use Rattle.rows.proofs.Laws.Reading.{text-long}
 use Rattle.model_bytes.specs.ModelBytes.{list_row}
 use Rattle.model_bytes.proofs.Laws.Reading.{list_is}
 use Rattle.model_bytes.proofs.Laws.Local.{list_local}
-use Rattle.finding.proofs.Laws.Loops.{all_more}
+use borrow.Author.Count.{below_more}
 use Rattle.standing.proofs.Laws.Keys.{place-named, place_unnamed}
 use Rattle.standing.proofs.Laws.Rows.{built}
 use Rattle.direct_swapping.specs.Swapping.{NamesTag, PlaceSwapped, Mapped, place_at, PlacesSwapped, swap_list, ListSwapped, RowsSwapped, ListsSwapped, Swapped}
@@ -96,7 +96,7 @@ module _ {A : Type 0} (row : List ℕ → ℕ → Option A) (f : A → A) (at : 
     size = w.size ∙ m.size;
     below = λ k l. w.below k (omega (arith, first i)) ∙ m.below k l;
     above = λ k l. w.above k (omega (arith, behind i (i + 1) (omega arith))) ∙ m.above k (omega (arith, behind i (i + 1) (omega arith)));
-    each = all_more {P = λ (j : ℕ). (x : A) → row s j ≡ some x → row v j ≡ some (f x)} i
+    each = below_more (λ (j : ℕ). (x : A) → row s j ≡ some x → row v j ≡ some (f x)) i
         (λ j l x e. only u v j (agree_below (at j) width w (behind j i l)) ∙ m.each j l x e)
         (λ x e. h x (only s u i (record { size = m.size; same = λ k a b. m.above k a }) ∙ e));
   }

@@ -1,4 +1,5 @@
 -- One place of a list written in the bytes: the model that they then hold. Assumes nothing.
+use Rattle.std.specs.Prelude.{Some}
 use Prim.Native.Nat.{ℕ, ◌+◌, ◌*◌, ◌-◌, ◌≤◌, ◌<◌, min}
 use native.Mathlib.Omega.{arith}
 use mathlib.Core.Path.{◌≡◌, refl, sym, ap, subst, ◌∙◌}
@@ -75,7 +76,7 @@ module _ {s : List ℕ} {m : Model} (is : model_in s ≡ some m) (sound : T (val
   once = (good m sound).once-lists
 
   at : (k.row < word s 16) × ((get_or m.lists k.row nothing).0 ≡ tag)
-  at = list-found w nothing k.sought k.found
+  at = list-found w nothing k.sought
 
   abbrev pub places : List Place
   places = (get_or m.lists k.row nothing).1
@@ -84,13 +85,13 @@ module _ {s : List ℕ} {m : Model} (is : model_in s ≡ some m) (sound : T (val
   shows = list_at w nothing k.row at.0
 
   pub list_there : list m tag ≡ some places
-  list_there = list_held w nothing once k.sought k.found
+  list_there = list_held w nothing once k.sought
 
   pub place_there : p < length places
   place_there = omega (arith, shows.count, k.within)
 
   wrote : Wrote (λ u. place_in u (5744 + 168 * k.row + 40 * p)) (some q) (5744 + 168 * k.row + 40 * p) 40 s t
-  wrote = k.put.wrote w.size k.found (omega (arith, shows.few, k.within))
+  wrote = k.put.wrote w.size (omega (arith, at.0, w.few_lists)) (omega (arith, shows.few, k.within))
 
   kept : Kept s t (list_place_at k.row) 168
   kept = kept-within (list_place_at k.row) 168 wrote.kept (omega arith) (omega (arith, shows.few, k.within))
@@ -112,8 +113,8 @@ module _ {s : List ℕ} {m : Model} (is : model_in s ≡ some m) (sound : T (val
 -- ---- what is answered
 
 module _ {tag : Tag} {p : ℕ} {q : Place} {s t : List ℕ} where
-  pub places_yes : {j : ℕ} → RowSought s list_place_at (min (word s 16) 128) 128 tag j → j < 128 → p < word s (5736 + 168 * j) → PutPlace j p q s t → PlacesIn tag p q s t true
-  places_yes {j} a b c d = record { placed = λ _. record { row = j; sought = a; found = b; within = c; put = d }; left = λ e. absurd (true≢false e) }
+  pub places_yes : {j : ℕ} → RowSought s list_place_at (min (word s 16) 128) tag (Some j) → p < word s (5736 + 168 * j) → PutPlace j p q s t → PlacesIn tag p q s t true
+  places_yes {j} a b c = record { placed = λ _. record { row = j; sought = a; within = b; put = c }; left = λ e. absurd (true≢false e) }
 
 pub places_no : {tag : Tag} {p : ℕ} {q : Place} {s : List ℕ} → PlacesIn tag p q s s false
 places_no = record { placed = λ e. absurd (true≢false (sym e)); left = λ _. refl }

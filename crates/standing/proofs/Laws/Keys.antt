@@ -1,5 +1,5 @@
 -- A tag in bytes: it is the string there, no longer than 32, and its key is its own. Assumes nothing.
-use Prim.Native.Nat.{ℕ, zero, suc, ◌+◌, ◌*◌, ◌-◌, ◌%◌, ◌≤◌, ◌<◌}
+use Prim.Native.Nat.{ℕ, zero, suc, ◌+◌, ◌-◌, ◌≤◌, ◌<◌}
 use native.Mathlib.Omega.{arith}
 use native.Mathlib.Decide.{dec_lt}
 use mathlib.Core.Path.{◌≡◌, refl, sym, ap, subst, ◌∙◌}
@@ -8,7 +8,7 @@ use mathlib.Core.Bool.{Bool, true, false, ◌&&◌, cond, not}
 use mathlib.Core.List.{List}
 use mathlib.Core.Option.{Option, none, some, map}
 use lib.Dec.{T, leb}
-use lib.ListN.{length, get_or, set, take, drop, length-set, length-take, get_or-eq_default}
+use lib.ListN.{length, get_or, take, drop, length-take, get_or-eq_default}
 use lib.Seq.{get_or-take, get_or-drop}
 use borrow.Author.Tests.{leb-true, le-ltb}
 use Rattle.tag.specs.Tags.{Tag, overlong}
@@ -19,8 +19,7 @@ use Rattle.layout.specs.Words.{four, word, text}
 use Rattle.rows.specs.Rows.{blank, text_in, tag_in, place_from, place_in}
 use Rattle.rows.proofs.Laws.Tests.{and_left, and_right}
 use Rattle.row_reading.proofs.Laws.{blank-zero}
-use Rattle.finding.proofs.Laws.Loops.{each_more}
-use Rattle.standing.specs.Names.{key_in, Keys}
+use Rattle.standing.specs.Names.{key_in}
 
 -- what a conditional string shows
 pub cond_some : {A : Type 0} (b : Bool) {x y : A} → cond b (some x) none ≡ some y → (b ≡ true) × (x ≡ y)
@@ -134,16 +133,3 @@ place-named s a h e = place_from_named (word s a) s (a + 8) h e
 pub place_unnamed : (s : List ℕ) (a : ℕ) {q : Place} → word s a ≡ 0 → place_in s a ≡ some q → q ≡ none
 unfolding place_in place_from
 place_unnamed s a {q} z e = sym (cond_some (blank s (a + 8) 32) (sym (ap (λ (n : ℕ). place_from n s (a + 8)) z) ∙ e)).1
-
--- ---- keys read
-
-pub key_of : (s : List ℕ) (i : ℕ) {a b c d : ℕ} → a ≡ word s i → b ≡ word s (i + 8) → c ≡ word s (i + 16) → d ≡ word s (i + 24)
-    → a % 0x2000_0000_0000_0000 + 3 * (b % 0x0800_0000_0000_0000) + 5 * (c % 0x0800_0000_0000_0000) + 7 * (d % 0x0800_0000_0000_0000) ≡ key_in s i
-unfolding key_in
-key_of s i p q r t = rw (p, q, r, t)
-
-pub keys_more : (s : List ℕ) (at : ℕ → ℕ) {i b x : ℕ} {keys : List ℕ} → i < 128 → Keys s at i keys → x ≡ key_in s b → b ≡ at i + 8 → Keys s at (i + 1) (set keys i x)
-keys_more s at {i} {b} {x} {keys} h k e q = record {
-  size = length-set keys i x ∙ k.size;
-  each = each_more (λ j y. y ≡ key_in s (at j + 8)) keys i x (omega (arith, k.size)) k.each (e ∙ ap (key_in s) q);
-}

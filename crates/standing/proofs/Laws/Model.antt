@@ -15,10 +15,9 @@ use Rattle.model.specs.Model.{Place, Model, short_place}
 use Rattle.model.proofs.Laws.Valid.{some_some, none_some}
 use Rattle.layout.specs.Words.{word}
 use Rattle.component_layout.specs.Numbers.{words_of}
-use Rattle.component_layout.specs.declared.component_numbers.ComponentWords.{ComponentWords}
+use Rattle.component_layout.specs.declared.component_numbers.Numbered.{Numbered}
 use Rattle.rows.specs.Rows.{blank, tag_in, place_in, six_in, same_words, spelled, component_of_words, component_in, rows_in, place_row, places_in}
 use Rattle.model_bytes.specs.ModelBytes.{both, entry_in, list_in, headed, entry_row, list_row, joined, model_in}
-use Rattle.model_holding.specs.Holds.{Held}
 use Rattle.rows.proofs.Laws.Tests.{and_left}
 use Rattle.model_bytes.proofs.Laws.Decoding.{Head, head}
 use Rattle.finding.specs.Rows.{component_at, list_place_at, from_six, component_row}
@@ -49,9 +48,6 @@ parts s {m} e = go (headed s) refl e
     go true h f = in_parts h (rows_in (entry_row s) (word s 8)) (rows_in (list_row s) (word s 16)) (place_in s 24) refl refl refl f
     go false h f = none_some f
 
-pub held-head : (s : List ℕ) → Held (model_in s) → Head s
-held-head s h = (parts s h.is).head
-
 -- ---- rows
 
 pub both_some : {A B : Type 0} (a : Option A) (b : Option B) {x : A × B} → both a b ≡ some x → (a ≡ some x.0) × (b ≡ some x.1)
@@ -64,7 +60,7 @@ pub record Entry (s : List ℕ) (i : ℕ) (x : Tag × Component) : Type 0 where
   pub tag : Tagged s (component_at i) x.0
   pub component : component_row s i ≡ some x.1
 
-spelled_some : (w : ComponentWords) (o : Option Component) {c : Component} → spelled w o ≡ some c → o ≡ some c
+spelled_some : (w : Numbered ℕ) (o : Option Component) {c : Component} → spelled w o ≡ some c → o ≡ some c
 spelled_some w none e = none_some e
 spelled_some w (some d) e = ap some (cond_some (same_words (words_of d) w) e).1
 

@@ -1,9 +1,9 @@
 -- 7, and what the wires lead to, from the checks of the bytes. Assumes nothing.
-use Prim.Native.Nat.{ℕ, zero, suc, ◌+◌, ◌*◌, ◌/◌, ◌%◌, ◌≤◌, ◌<◌}
+use Rattle.std.specs.Prelude.{min}
+use Prim.Native.Nat.{ℕ, zero, suc, ◌+◌, ◌*◌, ◌≤◌, ◌<◌}
 use native.Mathlib.Omega.{arith}
-use native.Mathlib.Decide.{dec_lt}
 use mathlib.Core.Path.{◌≡◌, sym, ap, subst, ◌∙◌}
-use mathlib.Core.Logic.{◌⊎◌, inl, inr, ◌≢◌}
+use mathlib.Core.Logic.{inl, inr, ◌⊎◌, ◌≢◌}
 use mathlib.Core.Bool.{◌&&◌}
 use mathlib.Core.List.{List, []}
 use mathlib.Core.Option
@@ -15,40 +15,42 @@ use Rattle.tag.specs.Tags.{Tag}
 use Rattle.component.specs.Value.{input_count}
 use Rattle.component.specs.declared.model_component.Component.{Component}
 use Rattle.model.specs.Table.{all, find}
-use Rattle.model.specs.Model.{Place, Model, component, inputs, short_place, good_list, counted, named}
+use Rattle.model.specs.Model.{Place, Model, inputs, short_place, good_list, counted, named}
 use Rattle.model.proofs.Laws.Bool.{true→T, and_T}
 use Rattle.model.proofs.Laws.Valid.{found-held, Good, good_valid}
 use Rattle.layout.specs.Words.{word, text}
 use Rattle.model_bytes.specs.ModelBytes.{entry_row, list_row, model_in}
 use Rattle.model_holding.specs.Holds.{Held}
 use Rattle.finding.specs.Rows.{component_at, list_place_at, component_row, tag_of}
-use Rattle.standing.specs.Names.{Keys, Apart}
-use Rattle.standing.specs.Standing.{PlaceNames, Owner, Owners, Filled, DefaultNamed, Wire, Wires, Leads, Stands}
+use Rattle.standing.specs.Names.{Keyed, Apart}
+use Rattle.standing.specs.declared.Wire.{Wire}
+use Rattle.standing.specs.declared.Wire.TheVariants.{To, Past, Open}
+use Rattle.standing.specs.Standing.{PlaceNames, Filled, DefaultNamed, Stood, Owned, Wires, wire_at, Leads, Stands}
+use Rattle.standing.specs.Standing.Owned.{unlisted, listed}
 use Rattle.standing.proofs.Laws.Keys.{Tagged, tags-apart, place-named, place_unnamed}
 use Rattle.standing.proofs.Laws.Rows.{Built, RowsApart, built_length, built_row, built_find, built_none, built_once, built_at}
-use Rattle.standing.proofs.Laws.Model.{Parts, parts, entry_shows, list_shows}
+use Rattle.standing.proofs.Laws.Model.{Parts, parts, entry_shows, Row, list_shows}
 
 -- what the checks found
-pub record Checked (s : List ℕ) (n k : ℕ) (components lists owners w : List ℕ) : Type 0 where
+pub record Checked (s : List ℕ) (n k : ℕ) (components lists : List ℕ) (w : List (List Wire)) : Type 0 where
   pub held : Held (model_in s)
-  pub count : n ≡ word s 8
-  pub lists-count : k ≡ word s 16
-  pub keys : Keys s component_at n components
+  pub count : n ≡ min (word s 8) 64
+  pub lists-count : k ≡ min (word s 16) 128
+  pub keys : Keyed s component_at n components
   pub apart : Apart components n
-  pub list_keys : Keys s list_place_at k lists
+  pub list_keys : Keyed s list_place_at k lists
   pub lists-apart : Apart lists k
-  pub owned : Owners s components lists n k owners
   pub filled : Filled s k
   pub default : DefaultNamed s n
-  pub wires : Wires s n owners w
+  pub wires : Wires s n lists k components w
 
 -- rows whose keys are apart have tags that are apart
-rows_apart : {B : Type 0} (s : List ℕ) (at : ℕ → ℕ) (row : ℕ → Option (Tag × B)) (n : ℕ) (keys : List ℕ) → ((i : ℕ) (x : Tag × B) → row i ≡ some x → Tagged s (at i) x.0) → Keys s at n keys → Apart keys n → RowsApart row n
+rows_apart : {B : Type 0} (s : List ℕ) (at : ℕ → ℕ) (row : ℕ → Option (Tag × B)) (n : ℕ) (keys : List ℕ) → ((i : ℕ) (x : Tag × B) → row i ≡ some x → Tagged s (at i) x.0) → Keyed s at n keys → Apart keys n → RowsApart row n
 rows_apart s at row n keys shows k a = record {
   differ = λ j h i l x y p q. tags-apart (shows i x p) (shows j y q) (λ e. a j h i l (k.each i (omega arith) ∙ e ∙ sym (k.each j h)));
 }
 
-module _ {s : List ℕ} {n k : ℕ} {components lists owners w : List ℕ} (c : Checked s n k components lists owners w) where
+module _ {s : List ℕ} {n k : ℕ} {components lists : List ℕ} {w : List (List Wire)} (c : Checked s n k components lists w) where
   model : Model
   model = c.held.held
 
@@ -59,11 +61,17 @@ module _ {s : List ℕ} {n k : ℕ} {components lists owners w : List ℕ} (c : 
   part : Parts s model
   part = parts s is
 
+  count : n ≡ word s 8
+  count = omega (arith, c.count, part.head.components)
+
+  lists-count : k ≡ word s 16
+  lists-count = omega (arith, c.lists-count, part.head.lists)
+
   cs : Built (entry_row s) n model.components
-  cs = subst (λ (i : ℕ). Built (entry_row s) i model.components) (sym c.count) part.components
+  cs = subst (λ (i : ℕ). Built (entry_row s) i model.components) (sym count) part.components
 
   ls : Built (list_row s) k model.lists
-  ls = subst (λ (i : ℕ). Built (list_row s) i model.lists) (sym c.lists-count) part.lists
+  ls = subst (λ (i : ℕ). Built (list_row s) i model.lists) (sym lists-count) part.lists
 
   cs_apart : RowsApart (entry_row s) n
   cs_apart = rows_apart s component_at (entry_row s) n components (λ i x p. (entry_shows s i x p).tag) c.keys c.apart
@@ -100,13 +108,10 @@ module _ {s : List ℕ} {n k : ℕ} {components lists owners w : List ℕ} (c : 
   list-missing i h f = built_none ls (tag_of s i) (λ j x l q.
       tags-apart (list_shows s j x q).tag (standing i h).tag (λ e. f j l (c.list_keys.each j l ∙ e ∙ sym (c.keys.each i h))))
 
-  owner : (i : ℕ) → i < n → Owner s components lists k i (get_or owners i 0)
-  owner i h = c.owned.each i h
-
   -- ---- 7
 
   counts : (i : ℕ) (d : Component) → i < n → component_row s i ≡ some d → T (counted (input_count d) (find (tag_of s i) model.lists))
-  counts i d h e = go ((owner i h).listed d e)
+  counts i d h e = go (c.wires.each i h)
     where
       of_none : (m : ℕ) (l : Option (List Place)) → m ≡ 0 → T (counted m l)
       of_none m l z = subst (λ (x : ℕ). T (counted x l)) (sym z) tt
@@ -115,12 +120,12 @@ module _ {s : List ℕ} {n k : ℕ} {components lists owners w : List ℕ} (c : 
       of_some zero l q = tt
       of_some (suc m) l q = true→T _ (eq-eqb (length l) (suc m) q)
 
-      go : (input_count d ≡ 0) ⊎ ((get_or owners i 0 < 128) × (word s (5736 + 168 * get_or owners i 0) ≡ input_count d)) → T (counted (input_count d) (find (tag_of s i) model.lists))
-      go (inl z) = of_none (input_count d) (find (tag_of s i) model.lists) z
-      go (inr (l, q)) =
-          let m = (owner i h).listing.mine l in
-          let t = list_there i (get_or owners i 0) m.0 m.1 in
-          subst (λ (x : Option (List Place)). T (counted (input_count d) x)) (sym t.2) (of_some (input_count d) t.0.1 ((list_shows s (get_or owners i 0) t.0 t.1).count ∙ q))
+      go : Owned s n lists k (get_or components i 0) i (get_or w i []) → T (counted (input_count d) (find (tag_of s i) model.lists))
+      go (unlisted f t q) = of_none (input_count d) (find (tag_of s i) model.lists) (t d e)
+      go (listed o l q (inl t) f) = of_none (input_count d) (find (tag_of s i) model.lists) (t d e)
+      go (listed o l q (inr t) f) =
+          let r = list_there i o l q in
+          subst (λ (x : Option (List Place)). T (counted (input_count d) x)) (sym r.2) (of_some (input_count d) r.0.1 ((list_shows s o r.0 r.1).count ∙ sym (t d e)))
 
   good-list : (j : ℕ) (x : Tag × List Place) → j < k → list_row s j ≡ some x → T (good_list x)
   good-list j x h e =
@@ -140,8 +145,8 @@ module _ {s : List ℕ} {n k : ℕ} {components lists owners w : List ℕ} (c : 
 
   good : Good model
   good = record {
-    few = omega (arith, built_length cs, c.count, part.head.components);
-    few_lists = omega (arith, built_length ls, c.lists-count, part.head.lists);
+    few = omega (arith, built_length cs, count, part.head.components);
+    few_lists = omega (arith, built_length ls, lists-count, part.head.lists);
     once = built_once cs cs_apart;
     once-lists = built_once ls ls_apart;
     short = λ t d e. let f = built_find cs t d e in (entry_shows s f.0 (t, d) f.2).tag.short;
@@ -159,56 +164,33 @@ module _ {s : List ℕ} {n k : ℕ} {components lists owners w : List ℕ} (c : 
   -- what is to be shown of a list
   record Wired (i : ℕ) (l : List Place) : Type 0 where
     short : length l ≤ 3
-    wired : (p : ℕ) → p < 3 → Leads s n l p (get_or w (i * 3 + p) 0)
-
-  wire : (i p : ℕ) → i < n → p < 3 → Wire s n (get_or owners i 0) p (get_or w (i * 3 + p) 0)
-  wire i p h l =
-      let a : (i * 3 + p) / 3 ≡ i = omega arith in
-      let b : (i * 3 + p) % 3 ≡ p = omega arith in
-      subst (λ (x : ℕ). Wire s n (get_or owners i 0) x (get_or w (i * 3 + p) 0)) b
-      (subst (λ (x : ℕ). Wire s n (get_or owners x 0) ((i * 3 + p) % 3) (get_or w (i * 3 + p) 0)) a (c.wires.each (i * 3 + p) (omega arith)))
+    wired : (p : ℕ) → p < 3 → Leads s n l p (wire_at w i p)
 
   wired_by : (i : ℕ) → i < n → Wired i (inputs model (tag_of s i))
-  wired_by i h = go (dec_lt (get_or owners i 0) 128)
+  wired_by i h = go (c.wires.each i h)
     where
-      o : ℕ
-      o = get_or owners i 0
-
-      none_there : get_or owners i 0 ≡ 128 → inputs model (tag_of s i) ≡ []
-      none_there q = ap (λ (x : Option (List Place)). Option.get_or x []) (list-missing i h ((owner i h).listing.none q))
-
-      nothing : get_or owners i 0 ≡ 128 → Wired i []
-      nothing q = record {
-        short = omega arith;
-        wired = λ p l. record { named = λ v. absurd (let z : ⊥ = omega (arith, ((wire i p h l).named v).0, q) in z); past = λ e. omega arith };
-      }
-
-      go : Dec (get_or owners i 0 < 128) → Wired i (inputs model (tag_of s i))
-      go (no l) =
-          let q : get_or owners i 0 ≡ 128 = omega (arith, (owner i h).small) in
-          subst (λ (x : List Place). Wired i x) (sym (none_there q)) (nothing q)
-      go (yes l) =
-          let m = (owner i h).listing.mine l in
-          let t = list_there i (get_or owners i 0) m.0 m.1 in
-          let r = list_shows s (get_or owners i 0) t.0 t.1 in
-          subst (λ (x : List Place). Wired i x) (sym (ap (λ (x : Option (List Place)). Option.get_or x []) t.2))
-          (record {
-            short = omega (arith, r.few, r.count);
-            wired = λ p b. record {
-              named = λ v.
-                  let f = (wire i p h b).named v in
-                  (f.2.names.below, omega (arith, f.1, r.count), place-named s (5744 + 168 * get_or owners i 0 + 40 * p) f.2.assigned (r.place p f.1) ∙ ap some (sym f.2.names.tag));
-              past = λ e. omega (arith, (wire i p h b).past e l, r.count);
-            };
-          })
+      go : Owned s n lists k (get_or components i 0) i (get_or w i []) → Wired i (inputs model (tag_of s i))
+      go (unlisted f t q) =
+          subst (λ (x : List Place). Wired i x) (sym (ap (λ (x : Option (List Place)). Option.get_or x []) (list-missing i h f)))
+          (record { short = omega arith; wired = λ p l. subst (Leads s n [] p) (sym (q p l)) (omega arith) })
+      go (listed o l q t f) =
+          let m = list_there i o l q in
+          let r = list_shows s o m.0 m.1 in
+          subst (λ (x : List Place). Wired i x) (sym (ap (λ (x : Option (List Place)). Option.get_or x []) m.2))
+          (record { short = omega (arith, r.few, r.count); wired = λ p b. leads p (wire_at w i p) r (f p b) })
+        where
+          leads : {x : Tag × List Place} (p : ℕ) (v : Wire) → Row s o x → Stood s n o p v → Leads s n x.1 p v
+          leads p (To v) r (b, f) = (f.names.below, omega (arith, b, r.count), place-named s (5744 + 168 * o + 40 * p) f.assigned (r.place p b) ∙ ap some (sym f.names.tag))
+          leads p Past r b = omega (arith, b, r.count)
+          leads p Open r b = b
 
   pub stands : Stands s n w
   stands = record {
     model = model;
     is = is;
     sound = good_valid model good;
-    count = c.count;
-    few = omega (arith, c.count, part.head.components);
+    count = count;
+    few = omega (arith, c.count);
     component = λ i d h e. let t = standing i h in t.found ∙ (sym t.row ∙ e);
     short = λ i h. (wired_by i h).short;
     wired = λ i p h l. (wired_by i h).wired p l;

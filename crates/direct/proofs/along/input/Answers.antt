@@ -1,11 +1,10 @@
 -- `input` meets its contract. Assumes nothing.
-use borrow.Author.Tests.{lt-ltb, le-ltb}
-use lib.Ieee.{div, of_bits, of_fields, odd}
+use mathlib.Core.Path.{refl, sym, subst}
+use lib.Ieee.{of_bits, of_fields, odd}
+use Rattle.standing.specs.declared.Wire.{Wire}
+use Rattle.direct.specs.Along.{Brings}
 use Rattle.direct.proofs.along.input.Goals as goal
 
-pub returns-then-i-lt64 : goal.returns-then-i-lt64
-returns-then-i-lt64 c = simp (lt-ltb _ _ c.if-i-lt64.true)
-
-pub returns-else-i-lt64 : goal.returns-else-i-lt64
-unfolding div of_bits of_fields odd
-returns-else-i-lt64 c = simp (le-ltb _ _ c.if-i-lt64.false)
+pub returns-in-Past : goal.returns-in-Past
+unfolding of_bits of_fields odd
+returns-in-Past c = subst (λ (w : Wire). Brings c.args.numbers.now w _) (sym c.in-Past.is) refl

@@ -1,28 +1,29 @@
 -- `direct_component::free::free_tag_in` meets its contract. Assumes nothing.
 use native.Mathlib.Omega.{arith}
-use borrow.Author.Tests.{not-true, not-false}
+use mathlib.Core.Path.{sym, subst}
+use Rattle.tag.specs.View.{bytes_of}
+use Rattle.direct_component.specs.Free.{FirstFreeIn}
 use Rattle.direct_component.proofs.Laws.Free.{at_once, start, nowhere, too_long, here, next}
 use Rattle.direct_component.proofs.free.free_tag_in.Goals as goal
 
 pub returns-then-is_free : goal.returns-then-is_free
-returns-then-is_free c = at_once c.args.s.now c.args.t c.is_free.result c.is_free.ensures c.if-is_free.true c.requires
+returns-then-is_free c = at_once c.args.s.now c.args.t c.is_free.ensures c.if-is_free.true c.requires
 
-pub loop-left-init : goal.loop-left-init
-loop-left-init c =
-    let s = c.args in (start s.s.now s.t c.is_free.result c.is_free.ensures c.if-is_free.false c.component_count-left.ensures, omega (arith, c.component_count-left.ensures))
+pub loop-k-init : goal.loop-k-init
+loop-k-init c = start c.args.s.now c.args.t c.is_free.ensures c.if-is_free.false
 
-pub returns-then-not-u : goal.returns-then-not-u
-returns-then-not-u c =
-    let s = c.args in let v = c.loop-left in too_long s.s.now s.t v.left v.k v.invariant.0 c.loop-left-test.true c.numbered_tag-u.result c.numbered_tag-u.ensures (not-true _ c.if-not-u.true)
+pub returns-in_err-u : goal.returns-in_err-u
+returns-in_err-u c =
+    subst (FirstFreeIn c.args.s.now (bytes_of c.args.t)) (sym c.from_residual.ensures)
+    (too_long c.args.s.now c.args.t c.loop-k.k c.loop-k.invariant (omega (arith, c.count-k-end.ensures)) c.in_err-u.ensures)
 
 pub returns-then-is_free-2 : goal.returns-then-is_free-2
 returns-then-is_free-2 c =
-    let s = c.args in let v = c.loop-left in here s.s.now s.t v.left v.k v.invariant.0 c.loop-left-test.true c.numbered_tag-u.result c.numbered_tag-u.ensures (not-false _ c.if-not-u.false) c.is_free-in-loop-left.result c.is_free-in-loop-left.ensures c.if-is_free-2.true
+    here c.args.s.now c.args.t c.loop-k.k c.loop-k.invariant (omega (arith, c.count-k-end.ensures)) _ c.in_ok-u.ensures.1 c.is_free-in-loop-k.ensures c.if-is_free-2.true
 
-pub loop-left-preserved : goal.loop-left-preserved
-loop-left-preserved c =
-    (let s = c.args in let v = c.loop-left in next s.s.now s.t v.left v.k v.invariant.0 c.loop-left-test.true c.numbered_tag-u.result c.numbered_tag-u.ensures (not-false _ c.if-not-u.false) c.is_free-in-loop-left.result c.is_free-in-loop-left.ensures c.if-is_free-2.false, omega arith)
+pub loop-k-preserved : goal.loop-k-preserved
+loop-k-preserved c =
+    next c.args.s.now c.args.t c.loop-k.k c.loop-k.invariant (omega (arith, c.count-k-end.ensures)) _ c.in_ok-u.ensures.1 c.is_free-in-loop-k.ensures c.if-is_free-2.false
 
 pub returns : goal.returns
-returns c =
-    let s = c.args in let v = c.loop-left in nowhere s.s.now s.t v.left v.k v.invariant.0 (omega (arith, c.loop-left-test.false))
+returns c = nowhere c.args.s.now c.args.t c.loop-k.k c.loop-k.invariant (omega (arith, c.count-k-end.ensures))
