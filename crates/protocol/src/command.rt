@@ -1,120 +1,155 @@
-// The commands by their names, and what arguments each takes.
-use crate::arguments::Arguments;
-use spelling::line_words;
-use tag::bytes::same_bytes;
+// The commands, each with its arguments.
+ghost use Rattle.std.specs.Prelude.{◌≡◌, ◌∷◌, [], take, IfSome};
+ghost use Rattle.spelling.specs.Words.{words_of};
+ghost use Rattle.protocol.specs.Names.{change_name, name_of};
 
-#[derive(Clone, Copy)]
-pub enum Command {
-    New,
-    AddConstant,
-    AddFunction,
-    AddOperation,
-    AddComponent,
-    AddInput,
-    RemoveInput,
-    RemoveComponent,
-    RenameComponent,
-    SetParameter,
-    Compile,
-    EvaluateAt,
+use crate::arguments::{Inputs, Operator, data};
+use component::model_component::Component;
+use component::parameter::Data;
+use geometry::vec3f::Vec3;
+use spelling::line_words::Words;
+use spelling::text::Text;
+
+// The edits of a model.
+#[derive(Drop)]
+pub enum Change {
+    AddConstant {
+        tag: Text,
+        value: f64,
+    },
+    AddFunction {
+        tag: Text,
+        function: Component,
+    },
+    AddOperation {
+        tag: Text,
+        operation: Component,
+        inputs: Option<Inputs>,
+    },
+    AddComponent {
+        tag: Text,
+        component: Component,
+    },
+    AddInput {
+        target: Text,
+        source: Text,
+        index: usize,
+    },
+    RemoveInput {
+        tag: Text,
+        index: usize,
+    },
+    RemoveComponent {
+        tag: Text,
+    },
+    RenameComponent {
+        old: Text,
+        new: Text,
+    },
+    SetParameter {
+        tag: Text,
+        name: Text,
+        value: Data,
+    },
+}
+
+impl Change {
+    // The edit of this name, its arguments read from the words behind.
+    #[tactic(auto, using(crate::proofs::Names::name_from_reads))]
+    fn read(name: &[u8], words: &mut Words) -> Option<Change>
+        ensures { IfSome result (λ edit. name.now ≡ change_name edit) }
+    {
+        match name {
+            b"add_constant" => Some(Change::AddConstant {
+                tag: words.text()?,
+                value: words.float()?,
+            }),
+            b"add_function" => Some(Change::AddFunction {
+                tag: words.text()?,
+                function: words.component()?,
+            }),
+            b"add_operation" => Some(Change::AddOperation {
+                tag: words.text()?,
+                operation: words.component()?,
+                inputs: Inputs::read_given(words)?,
+            }),
+            b"add_component" => Some(Change::AddComponent {
+                tag: words.text()?,
+                component: words.component()?,
+            }),
+            b"add_input" => Some(Change::AddInput {
+                target: words.text()?,
+                source: words.text()?,
+                index: words.decimal()?,
+            }),
+            b"remove_input" => Some(Change::RemoveInput {
+                tag: words.text()?,
+                index: words.decimal()?,
+            }),
+            b"remove_component" => Some(Change::RemoveComponent { tag: words.text()? }),
+            b"rename_component" => Some(Change::RenameComponent {
+                old: words.text()?,
+                new: words.text()?,
+            }),
+            b"set_parameter" => Some(Change::SetParameter {
+                tag: words.text()?,
+                name: words.text()?,
+                value: data(words)?,
+            }),
+            _ => None,
+        }
+    }
+}
+
+// What is asked of a model and changes none.
+#[derive(Drop)]
+pub enum Question {
+    Compile { target: Text },
+    EvaluateAt { target: Text, at: Vec3 },
     Dump,
-    Load,
-    Vec3,
-    Nothing,
+    Operate(Operator),
 }
 
-fn named_adding(w: &[u8]) -> Command {
-    if same_bytes(w, b"add_constant") {
-        return Command::AddConstant;
-    }
-    if same_bytes(w, b"add_function") {
-        return Command::AddFunction;
-    }
-    if same_bytes(w, b"add_operation") {
-        return Command::AddOperation;
-    }
-    if same_bytes(w, b"add_component") {
-        return Command::AddComponent;
-    }
-    Command::Nothing
+// The record of `load` is read on its own, from the words behind the command's name.
+#[derive(Drop)]
+pub enum Command<'a> {
+    New,
+    Load(Words<'a>),
+    Change(Change),
+    Ask(Question),
 }
 
-fn named_change(w: &[u8]) -> Command {
-    if same_bytes(w, b"add_input") {
-        return Command::AddInput;
+impl<'a> Command<'a> {
+    // The command of this name, its arguments read from the words behind.
+    #[tactic(auto, using(crate::proofs::Names::name_from_reads))]
+    fn read(name: &[u8], words: &mut Words<'a>) -> Option<Command<'a>>
+        ensures { IfSome result (λ command. name.now ≡ name_of command) }
+    {
+        match name {
+            b"new" => Some(Command::New),
+            b"load" => Some(Command::Load(*words)),
+            b"compile" => Some(Command::Ask(Question::Compile {
+                target: words.text()?,
+            })),
+            b"evaluate_at" => Some(Command::Ask(Question::EvaluateAt {
+                target: words.text()?,
+                at: words.vec3()?,
+            })),
+            b"dump" => Some(Command::Ask(Question::Dump)),
+            b"vec3" => Some(Command::Ask(Question::Operate(Operator::read(words)?))),
+            _ => Some(Command::Change(Change::read(name, words)?)),
+        }
     }
-    if same_bytes(w, b"remove_input") {
-        return Command::RemoveInput;
-    }
-    if same_bytes(w, b"remove_component") {
-        return Command::RemoveComponent;
-    }
-    if same_bytes(w, b"rename_component") {
-        return Command::RenameComponent;
-    }
-    if same_bytes(w, b"set_parameter") {
-        return Command::SetParameter;
-    }
-    named_adding(w)
-}
 
-// The command that a word names.
-pub fn named(w: &[u8]) -> Command {
-    if same_bytes(w, b"new") {
-        return Command::New;
-    }
-    if same_bytes(w, b"compile") {
-        return Command::Compile;
-    }
-    if same_bytes(w, b"evaluate_at") {
-        return Command::EvaluateAt;
-    }
-    if same_bytes(w, b"dump") {
-        return Command::Dump;
-    }
-    if same_bytes(w, b"load") {
-        return Command::Load;
-    }
-    if same_bytes(w, b"vec3") {
-        return Command::Vec3;
-    }
-    named_change(w)
-}
-
-// The arguments of a command that adds: what is read from a line after r.
-fn read_adding(c: Command, r: Arguments, line: &[u8]) -> Arguments {
-    match c {
-        Command::AddConstant => r.tag(line).number(line),
-        Command::AddFunction => r.tag(line).component(line),
-        Command::AddOperation => r.tag(line).component(line).inputs(line),
-        Command::AddComponent => r.tag(line).component(line),
-        _ => r,
-    }
-}
-
-// The arguments of a command that changes a model.
-fn read_change(c: Command, r: Arguments, line: &[u8]) -> Arguments {
-    match c {
-        Command::AddInput => r.tag(line).tag(line).decimal(line),
-        Command::RemoveInput => r.tag(line).decimal(line),
-        Command::RemoveComponent => r.tag(line),
-        Command::RenameComponent => r.tag(line).tag(line),
-        Command::SetParameter => r.tag(line).tag(line).data(line),
-        _ => read_adding(c, r, line),
-    }
-}
-
-// The arguments of a command. The record of `load` is read on its own.
-pub fn read(c: Command, line: &[u8]) -> Arguments {
-    let r = Arguments::from(line_words::next(line, 0));
-    match c {
-        Command::New => r,
-        Command::Compile => r.tag(line),
-        Command::EvaluateAt => r.tag(line).vec3(line),
-        Command::Dump => r,
-        Command::Load => r,
-        Command::Vec3 => r.operator(line),
-        Command::Nothing => r,
-        _ => read_change(c, r, line),
+    // The command that a line is, if it is one.
+    pub fn parse(line: &'a [u8]) -> Option<Command<'a>>
+        ensures { IfSome result (λ command. take 1 (words_of line.now) ≡ name_of command ∷ []) }
+    {
+        let mut words = Words::of(line);
+        let command = Command::read(words.next()?, &mut words)?;
+        match (&command, words.next()) {
+            (Command::Load(_), _) | (_, None) => Some(command),
+            _ => None,
+        }
     }
 }

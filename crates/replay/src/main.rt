@@ -3,203 +3,130 @@
 #![tactic(auto)]
 
 use model::implicit_model::Model;
-use script::answers;
-use spelling::line_words;
-use std::io::{self, Read};
-use tag::bytes::same_bytes;
-use word_writing::{put_byte, put_decimal};
+use script::answers::answer;
+use std::fmt;
+use std::io::{self, BufRead, BufReader};
+
+// What stands behind it is no part of a line.
+const LONGEST_LINE: usize = 65536;
 
 // How many answers were held to the Rust's, and how many of them are the same, differ as told, or are not explained.
 #[derive(Clone, Copy)]
 struct Tally {
-    answers: usize,
-    same: usize,
-    told: usize,
-    unexplained: usize,
+    answers: u64,
+    same: u64,
+    told: u64,
+    unexplained: u64,
 }
 
-// The model, how many bytes of the line that is being read are held, how many our last answer has, and whether it differs from
-// the Rust's and no class has said so yet.
-#[derive(Clone, Copy)]
-struct State {
+impl fmt::Display for Tally {
+    fn fmt<W: fmt::Write>(&self, f: &mut fmt::Formatter<W>) -> fmt::Result {
+        let Tally {
+            answers,
+            same,
+            told,
+            unexplained,
+        } = self;
+        write!(
+            f,
+            "{answers} answers of the Rust: {same} the same, {told} differ as docs/DIFFERENCES.md says, {unexplained} unexplained"
+        )
+    }
+}
+
+// The model, our last answer, and whether it differs from the Rust's and no class has said so yet.
+#[derive(Drop)]
+struct Replay {
     model: Model,
-    held: usize,
-    len: usize,
+    ours: String,
     open: bool,
     tally: Tally,
 }
 
-fn print(rt: &impl Print, s: &[u8]) -> io::Result<()> {
-    rt.write_all(s)?;
-    println!(rt)
+// What stands behind the class of a line.
+fn behind_class(line: &[u8]) -> Option<&[u8]> {
+    let words = line.get(2..)?;
+    let space = words.iter().position(|byte| *byte == b' ')?;
+    words.get(space + 1..)
 }
 
-fn print_number(rt: &impl Print, n: usize) -> io::Result<()> {
-    let mut digits = [0u8; 24];
-    let k = put_decimal(&mut digits, 0, n);
-    rt.write_all(line_words::part(&digits, 1, k))
-}
-
-// One more; a count stays at the largest.
-fn more(n: usize) -> usize {
-    if n < usize::MAX { n + 1 } else { n }
-}
-
-// An answer that nothing explains: which one, and what ours is.
-fn unexplained(rt: &impl Print, t: Tally, ours: &[u8]) -> io::Result<Tally> {
-    print!(rt; "answer ")?;
-    print_number(rt, t.answers)?;
-    print!(rt; " is not explained, ours is ")?;
-    print(rt, ours)?;
-    let mut k = t;
-    k.unexplained = more(t.unexplained);
-    Ok(k)
-}
-
-// The Rust's answer to the last command.
-fn held_to(state: State, answer: &[u8], ours: &[u8]) -> State {
-    let mut s = state;
-    let mut t = s.tally;
-    t.answers = more(t.answers);
-    s.open = true;
-    if same_bytes(answer, ours) {
-        t.same = more(t.same);
-        s.open = false;
+impl Replay {
+    // An answer that nothing explains: which one, and what ours is.
+    fn complain(&mut self, rt: &impl Print) -> io::Result<()> {
+        self.open = false;
+        self.tally.unexplained = self.tally.unexplained.saturating_add(1);
+        let ours = self.ours.as_str();
+        println!(rt;
+            "answer {} is not explained, ours is {ours}",
+            self.tally.answers
+        )
     }
-    s.tally = t;
-    s
-}
 
-// What ours has to be, where the Rust's is another. A departure that is not there is not explained either.
-fn told(rt: &impl Print, state: State, answer: &[u8], ours: &[u8]) -> io::Result<State> {
-    let mut s = state;
-    let mut t = s.tally;
-    if s.open & same_bytes(answer, ours) {
-        t.told = more(t.told);
-    } else {
-        t = unexplained(rt, t, ours)?;
-    }
-    s.tally = t;
-    s.open = false;
-    Ok(s)
-}
-
-// Ahead of the next command, or at the end: an answer that differs and has no class.
-fn settled(rt: &impl Print, state: State, ours: &[u8]) -> io::Result<State> {
-    let mut s = state;
-    if s.open {
-        let t = s.tally;
-        s.tally = unexplained(rt, t, ours)?;
-        s.open = false;
-    }
-    Ok(s)
-}
-
-// A command: our answer to it.
-fn run(state: State, line: &[u8], out: &mut [u8]) -> State {
-    let m = state.model;
-    let a = answers::answer(m, line, out);
-    let after = a.model;
-    let mut s = state;
-    s.model = after;
-    s.len = a.len;
-    s
-}
-
-// A line's end: the state after it. The word behind `= ` starts at 2, and so does the class behind `! `.
-fn closed(rt: &impl Print, state: State, line: &[u8], out: &mut [u8]) -> io::Result<State> {
-    let end = line.len();
-    if end == 0 {
-        return Ok(state);
-    }
-    if line_words::begins(line, b'#') {
-        return Ok(state);
-    }
-    let ours = line_words::part(out, 0, state.len);
-    if line_words::begins(line, b'=') {
-        return Ok(held_to(state, line_words::part(line, 2, end), ours));
-    }
-    if line_words::begins(line, b'!') {
-        return told(
-            rt,
-            state,
-            line_words::part(line, line_words::next(line, 2), end),
-            ours,
-        );
-    }
-    let s = settled(rt, state, ours)?;
-    Ok(run(s, line, out))
-}
-
-// The state after the bytes s.
-fn fed(
-    rt: &impl Print,
-    state: State,
-    s: &[u8],
-    line: &mut [u8],
-    out: &mut [u8],
-) -> io::Result<State> {
-    let mut k = state;
-    let mut held = state.held;
-    let mut i: usize = 0;
-    while i < s.len() {
-        let b = s[i];
-        i += 1;
-        if b == b'\n' {
-            k = closed(rt, k, line_words::part(line, 0, held), out)?;
-            held = 0;
-        } else {
-            held = put_byte(line, held, b);
+    // The Rust's answer to the last command.
+    fn hold_to(&mut self, answer: &[u8]) {
+        self.tally.answers = self.tally.answers.saturating_add(1);
+        self.open = answer != self.ours.as_bytes();
+        if !self.open {
+            self.tally.same = self.tally.same.saturating_add(1);
         }
     }
-    k.held = held;
-    Ok(k)
-}
 
-fn report(rt: &impl Print, t: Tally) -> io::Result<()> {
-    print_number(rt, t.answers)?;
-    print!(rt; " answers of the Rust: ")?;
-    print_number(rt, t.same)?;
-    print!(rt; " the same, ")?;
-    print_number(rt, t.told)?;
-    print!(rt; " differ as docs/DIFFERENCES.md says, ")?;
-    print_number(rt, t.unexplained)?;
-    println!(rt; " unexplained")
-}
+    // What ours has to be, where the Rust's is another. A departure that is not there is not explained either.
+    fn tell(&mut self, rt: &impl Print, answer: &[u8]) -> io::Result<()> {
+        if self.open && answer == self.ours.as_bytes() {
+            self.open = false;
+            self.tally.told = self.tally.told.saturating_add(1);
+            return Ok(());
+        }
+        self.complain(rt)
+    }
 
-// Nothing run and nothing counted.
-fn start() -> State {
-    let empty = held::reading::new();
-    let t = Tally {
-        answers: 0,
-        same: 0,
-        told: 0,
-        unexplained: 0,
-    };
-    State {
-        model: empty,
-        held: 0,
-        len: 0,
-        open: false,
-        tally: t,
+    // Ahead of the next command, or at the end: an answer that differs and has no class.
+    fn settle(&mut self, rt: &impl Print) -> io::Result<()> {
+        if self.open { self.complain(rt) } else { Ok(()) }
+    }
+
+    // A line: a command, or what it has to be answered, behind its mark and a space.
+    fn take(&mut self, rt: &(impl Print + AllocGlobal), line: &[u8]) -> io::Result<()> {
+        match line {
+            [] | [b'#', ..] => Ok(()),
+            [b'=', ..] => {
+                self.hold_to(line.get(2..).unwrap_or(b""));
+                Ok(())
+            }
+            [b'!', ..] => self.tell(rt, behind_class(line).unwrap_or(b"")),
+            _ => {
+                self.settle(rt)?;
+                self.ours = format!(in rt.alloc(); "{}", answer(&mut self.model, line))?;
+                Ok(())
+            }
+        }
     }
 }
 
 fn main(rt: HostRuntime) -> io::Result<()> {
-    let mut input = rt.reader();
-    let mut buf = [0; 4096];
-    let mut line = [0; 65536];
-    let mut out = [0; 65536];
-    let mut state = start();
+    let mut input = BufReader::new(rt.alloc(), rt.reader())?;
+    let mut line = Vec::new(rt.alloc());
+    let mut replay = Replay {
+        model: held::reading::new(),
+        ours: String::new(rt.alloc()),
+        open: false,
+        tally: Tally {
+            answers: 0,
+            same: 0,
+            told: 0,
+            unexplained: 0,
+        },
+    };
     // nothing says that the input ends, so the turns are counted
     for _ in 0..u64::MAX {
-        let n = input.read(&mut buf)?;
-        if n == 0 {
+        line.clear();
+        input.read_until(b'\n', &mut line)?;
+        let Some(taken) = line.strip_suffix(b"\n") else {
             break;
-        }
-        state = fed(&rt, state, &buf[..n], &mut line, &mut out)?;
+        };
+        replay.take(&rt, &taken[..taken.len().min(LONGEST_LINE)])?;
     }
-    state = settled(&rt, state, line_words::part(&out, 0, state.len))?;
-    let t = state.tally;
-    report(&rt, t)
+    replay.settle(&rt)?;
+    println!(rt; "{}", replay.tally)
 }

@@ -1,52 +1,47 @@
-// The words of a line, parted by one space. A word is known by where it starts.
-// Where a word starts that is not there: behind every line.
-const NOWHERE: usize = usize::MAX;
+// The words of a line, parted by one space: between two spaces in a row lies an empty word.
+ghost use Rattle.std.specs.Prelude.{◌≡◌, ◌==◌};
+ghost use Rattle.std.specs.Iterator.{YieldsFirstBy, item_count};
+ghost use Rattle.std.specs.List.{position};
+ghost use Rattle.spelling.specs.Words.{words_of, words_left};
 
-// Where the word at a place ends.
-fn end(line: &[u8], at: usize) -> usize {
-    let mut i = at;
-    while i < line.len() {
-        if line[i] == b' ' {
-            return i;
+// Where a line's first space stands.
+fn first_space(line: &[u8]) -> Option<usize>
+    ensures { result ≡ position (λ b. b == 32) line.now }
+{
+    line.iter().position(|byte| *byte == b' ')
+}
+
+// What is left of the line; nothing behind its last word.
+#[derive(Clone, Copy)]
+pub struct Words<'a>(Option<&'a [u8]>);
+
+impl<'a> Words<'a> {
+    pub fn of(line: &'a [u8]) -> Words<'a>
+        ensures { words_left result ≡ words_of line.now }
+    {
+        Words(Some(line))
+    }
+}
+
+impl<'a> Iterator for Words<'a> {
+    type Item = &'a [u8];
+
+    ghost next_gives = { YieldsFirstBy (λ word. word.now) words_left };
+
+    ghost remaining = { item_count words_left };
+
+    #[tactic(auto, using(crate::proofs::Split::split_at_first, crate::proofs::Split::split_with_none))]
+    fn next(&mut self) -> Option<&'a [u8]> {
+        let line = self.0?;
+        match first_space(line) {
+            Some(end) => {
+                self.0 = Some(&line[end + 1..]);
+                Some(&line[..end])
+            }
+            None => {
+                self.0 = None;
+                Some(line)
+            }
         }
-        i += 1;
     }
-    i
-}
-
-// The bytes from a place to an end; none, where there is no such part.
-pub fn part(line: &[u8], at: usize, end: usize) -> &[u8] {
-    if at <= end {
-        if end <= line.len() {
-            return &line[at..end];
-        }
-    }
-    &line[..0]
-}
-
-// The word at a place; none where the line is at its end.
-pub fn word(line: &[u8], at: usize) -> &[u8] {
-    part(line, at, end(line, at))
-}
-
-// Where the next word starts.
-pub fn next(line: &[u8], at: usize) -> usize {
-    let e = end(line, at);
-    if e < line.len() {
-        return e + 1;
-    }
-    NOWHERE
-}
-
-// Whether no word starts there.
-pub fn is_over(line: &[u8], at: usize) -> bool {
-    line.len() < at
-}
-
-// Whether a line begins with a byte.
-pub fn begins(line: &[u8], b: u8) -> bool {
-    if line.len() == 0 {
-        return false;
-    }
-    line[0] == b
 }

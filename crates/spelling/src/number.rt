@@ -1,69 +1,40 @@
 // Numbers as words: the bits of a float in hexadecimal digits, an index or a count in decimal ones.
-ghost use Rattle.std.specs.Prelude.{◌≤◌};
+ghost use Rattle.std.specs.Prelude.{◌<◌, IfSome};
 
-// The number that a word spells, or that it spells none.
-#[derive(Clone, Copy)]
-pub enum Spelled {
-    Number(u64),
-    Nothing,
-}
-
-// The value of a hexadecimal digit, or 16 where b is none.
-pub fn digit(b: u8) -> u8
-    ensures { result ≤ 16 }
+// The value of a hexadecimal digit.
+pub fn digit(byte: u8) -> Option<u8>
+    ensures { IfSome result (λ d. d < 16) }
 {
-    match b {
-        b'0'..=b'9' => b - b'0',
-        b'a'..=b'f' => b - b'a' + 10,
-        b'A'..=b'F' => b - b'A' + 10,
-        _ => 16,
+    match byte {
+        b'0'..=b'9' => Some(byte - b'0'),
+        b'a'..=b'f' => Some(byte - b'a' + 10),
+        b'A'..=b'F' => Some(byte - b'A' + 10),
+        _ => None,
     }
 }
 
 // The bits of a float: 16 hexadecimal digits.
-pub fn bits(w: &[u8]) -> Spelled {
-    if w.len() != 16 {
-        return Spelled::Nothing;
+pub fn bits(word: &[u8]) -> Option<u64> {
+    if word.len() != 16 {
+        return None;
     }
-    let mut n: u64 = 0;
-    let mut i: usize = 0;
-    while i < w.len() {
-        let d = digit(w[i]);
-        if 16 <= d {
-            return Spelled::Nothing;
-        }
-        n = n << 4 | d as u64;
-        i += 1;
+    let mut bits = 0;
+    for byte in word {
+        bits = bits << 4 | u64::from(digit(*byte)?);
     }
-    Spelled::Number(n)
+    Some(bits)
 }
 
-// n with one decimal digit more; nothing where b is no digit or the number gets too large.
-fn appended(n: u64, b: u8) -> Spelled {
-    let d = digit(b);
-    if 10 <= d {
-        return Spelled::Nothing;
+// The number with one decimal digit more, where it has 19 significant ones at most: each of these fits.
+fn appended(number: u64, byte: u8) -> Option<u64> {
+    if byte.is_ascii_digit() && number < 1_000_000_000_000_000_000 {
+        return Some(number * 10 + u64::from(byte - b'0'));
     }
-    if 1_000_000_000_000_000_000 <= n {
-        return Spelled::Nothing;
-    }
-    Spelled::Number(n * 10 + d as u64)
+    None
 }
 
-// An index or a count: decimal digits, 19 significant ones at most.
-pub fn decimal(w: &[u8]) -> Spelled {
-    if w.len() == 0 {
-        return Spelled::Nothing;
-    }
-    let mut n: u64 = 0;
-    let mut i: usize = 0;
-    while i < w.len() {
-        let k = appended(n, w[i]);
-        let Spelled::Number(more) = k else {
-            return Spelled::Nothing;
-        };
-        n = more;
-        i += 1;
-    }
-    Spelled::Number(n)
+// An index or a count: decimal digits.
+pub fn decimal(word: &[u8]) -> Option<u64> {
+    let (first, others) = word.split_first()?;
+    others.iter().try_fold(appended(0, *first)?, |number, byte| appended(number, *byte))
 }

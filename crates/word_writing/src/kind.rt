@@ -1,37 +1,77 @@
-// A component written: the word of its kind, and its numbers in the protocol's sequence.
-use crate::{put, put_bits};
+// Numbers, points and components as words.
+use crate::BitsWord;
 use component::model_component::Component;
 use float::bits::bits_of;
-use spelling::kind::numbers;
-use spelling::text::first;
+use geometry::vec3f::Vec3;
+use shapes::sphere::Sphere;
+use shapes::torus::Torus;
+use std::fmt;
 
-// A space and the Rust's name of the kind.
-fn put_name(out: &mut [u8], n: usize, c: Component) -> usize {
-    let name = naming::type_name(c);
-    let bytes = name.bytes;
-    let s = put(out, n, b" ");
-    put(out, s, first(&bytes, name.len))
-}
+// A number, by its bits.
+#[derive(Clone, Copy)]
+pub struct FloatWord(pub f64);
 
-// A space and the word of the kind: the Rust's name, but a small letter for what is no operation.
-fn put_kind(out: &mut [u8], n: usize, c: Component) -> usize {
-    match c {
-        Component::Constant(_) => put(out, n, b" constant"),
-        Component::Sphere(_) => put(out, n, b" sphere"),
-        Component::Torus(_) => put(out, n, b" torus"),
-        _ => put_name(out, n, c),
+impl fmt::Display for FloatWord {
+    fn fmt<W: fmt::Write>(&self, f: &mut fmt::Formatter<W>) -> fmt::Result {
+        BitsWord(bits_of(self.0)).fmt(f)
     }
 }
 
-// The kind and the numbers.
-pub fn put_component(out: &mut [u8], n: usize, c: Component) -> usize {
-    let mut k = put_kind(out, n, c);
-    let of = numbers(c);
-    let count = tag::at_most(of.count, 5);
-    let mut i: usize = 0;
-    while i < count {
-        k = put_bits(out, k, bits_of(of.values[i]));
-        i += 1;
+// The three coordinates.
+#[derive(Clone, Copy)]
+pub struct Vec3Words(pub Vec3);
+
+impl fmt::Display for Vec3Words {
+    fn fmt<W: fmt::Write>(&self, f: &mut fmt::Formatter<W>) -> fmt::Result {
+        let Vec3 { x, y, z } = self.0;
+        write!(f, "{} {} {}", FloatWord(x), FloatWord(y), FloatWord(z))
     }
-    k
+}
+
+// A component: the word of its kind, and its numbers.
+#[derive(Clone, Copy)]
+pub struct ComponentWords(pub Component);
+
+impl fmt::Display for ComponentWords {
+    fn fmt<W: fmt::Write>(&self, f: &mut fmt::Formatter<W>) -> fmt::Result {
+        match self.0 {
+            Component::Constant(value) => write!(f, "constant {}", FloatWord(value)),
+            Component::Sphere(Sphere { centre, radius }) => {
+                write!(f, "sphere {} {}", Vec3Words(centre), FloatWord(radius))
+            }
+            Component::Torus(Torus { centre, r, t }) => {
+                write!(
+                    f,
+                    "torus {} {} {}",
+                    Vec3Words(centre),
+                    FloatWord(r),
+                    FloatWord(t)
+                )
+            }
+            Component::Multiply => write!(f, "Multiply"),
+            Component::Add => write!(f, "Add"),
+            Component::Subtract => write!(f, "Subtract"),
+            Component::Divide => write!(f, "Divide"),
+            Component::Lerp(factor) => write!(f, "Lerp {}", FloatWord(factor)),
+            Component::VariableLerp => write!(f, "VariableLerp"),
+            Component::Remap {
+                from_min,
+                from_max,
+                to_min,
+                to_max,
+            } => write!(
+                f,
+                "Remap {} {} {} {}",
+                FloatWord(from_min),
+                FloatWord(from_max),
+                FloatWord(to_min),
+                FloatWord(to_max)
+            ),
+            Component::BooleanUnion => write!(f, "BooleanUnion"),
+            Component::BooleanIntersection => write!(f, "BooleanIntersection"),
+            Component::BooleanDifference => write!(f, "BooleanDifference"),
+            Component::Offset(distance) => write!(f, "Offset {}", FloatWord(distance)),
+            Component::Thickness(t) => write!(f, "Thickness {}", FloatWord(t)),
+        }
+    }
 }

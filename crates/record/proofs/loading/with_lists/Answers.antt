@@ -1,9 +1,0 @@
--- `loading::with_lists` is safe and ends: the loop's measure is the lists that are left. Assumes nothing.
-use native.Mathlib.Omega.{arith}
-use Rattle.record.proofs.loading.with_lists.Goals as goal
-
-pub overflow_add-i : goal.overflow_add-i
-overflow_add-i c = omega (arith, c.loop-i-test.true, c.loop-i.invariant)
-
-pub loop-i-preserved : goal.loop-i-preserved
-loop-i-preserved c = c.loop-i.invariant

@@ -1,9 +1,0 @@
--- `writing::next_component` is safe and ends: the loop's measure is the rows that are left. Assumes nothing.
-use Prim.Native.Nat.{◌-◌}
-use Rattle.record.proofs.writing.next_component.Given as goal
-
-abbrev pub invariant-loop-i : goal.invariant-loop-i
-invariant-loop-i l = Unit {0}
-
-abbrev pub decreases-loop-i : goal.decreases-loop-i
-decreases-loop-i l = l.n - l.i
