@@ -1,5 +1,5 @@
 #!/usr/bin/env python3
-"""The numbers of the guess at a root: the arms of `square`, `inverse` and `root` in crate guess, and the coefficients of its
+"""The numbers of the guess at a root: the rows of `SQUARES`, `INVERSES` and `ROOTS` in crate guess, and the coefficients of its
 `near_root`.
 
 The numbers from a half to 2 fall into 256 stretches, by the exponent's last bit and the first seven digits. Of each, the number
@@ -65,10 +65,10 @@ def polynomial(f, low, high, degree):
 
 def main():
     nodes = [node(i) for i in range(STRETCHES)]
-    for name, part in ("square", 0), ("inverse", 1), ("root", 2):
+    for name, part in ("SQUARES", 0), ("INVERSES", 1), ("ROOTS", 2):
         print(name)
-        for i, numbers in enumerate(nodes):
-            print(f"        {i if i < STRETCHES - 1 else '_'} => {float(numbers[part])!r},")
+        for numbers in nodes:
+            print(f"    {float(numbers[part])!r},")
     reach = float(max(abs(Fraction(end) / nodes[i][0] - 1) for i in range(STRETCHES) for end in ends(i)))
     # not quite even about 0, so that no point is 0 itself
     low, high = -Decimal(reach) - Decimal("1e-9"), Decimal(reach) * Decimal("1.0001") + Decimal("1e-9")

@@ -21,7 +21,7 @@ pub enum Component {
     Divide,
     Lerp(f64),
     VariableLerp,
-    // Kept: four numbers by name, since an operation holds its own numbers; functions take two of `Range`.
+    // Kept: document 01 names the four numbers, a parameter each; as two of `Range`, each definition of specs/ that reads or sets one would reach through a range, and be no plainer.
     Remap {
         from_min: f64,
         from_max: f64,
@@ -36,6 +36,18 @@ pub enum Component {
 }
 
 impl Component {
+    // The operation that maps one range to the other.
+    pub fn remap(from: Range, to: Range) -> Component
+        ensures { result ≡ Component.Remap from.min from.max to.min to.max }
+    {
+        Component::Remap {
+            from_min: from.min,
+            from_max: from.max,
+            to_min: to.min,
+            to_max: to.max,
+        }
+    }
+
     // How many inputs it takes.
     pub fn input_count(self) -> usize
         ensures { result ≡ input_count self }

@@ -13,7 +13,7 @@ use tag::Tag;
 pub fn position_of<R: Tagged>(table: &[R], t: &Tag) -> Option<usize>
     ensures { result ≡ position (λ r. is (R.tag_bytes r) (bytes_of t.now)) table.now }
 {
-    table.iter().position(|r| tag::same_tag(*r.tag(), *t))
+    table.iter().position(|r| r.tag() == t)
 }
 
 // Where the component with that tag stands.

@@ -15,19 +15,10 @@ use tag::Tag;
 pub fn new() -> Model
     ensures { New result }
 {
-    let entry = ComponentEntry {
-        tag: tag::empty_tag(),
-        component: Component::Constant(0.0),
-    };
-    let list = InputList {
-        tag: tag::empty_tag(),
-        count: 0,
-        places: [None; 3],
-    };
     Model {
-        components: [entry; 64],
+        components: [ComponentEntry::default(); 64],
         component_count: 0,
-        lists: [list; 128],
+        lists: [InputList::default(); 128],
         list_count: 0,
         default: None,
     }
@@ -62,7 +53,7 @@ pub fn get_component(m: &Model, t: Tag) -> Option<Component>
     Some(m.components[i].component)
 }
 
-// The places of that tag's input list, whether the tag has a component or not.
+// That tag's input list, whether the tag has a component or not.
 pub fn get_inputs(m: &Model, t: Tag) -> Option<InputList>
     ensures { places_read result ≡ list (view m.now) (bytes_of t) }
 {

@@ -1,5 +1,5 @@
 -- Document 01, "The wires" and "A parameter set": the nine edits, each with its answer and the model after it, in document 01's check order. Definitions only.
-use Rattle.std.specs.Prelude.{Bool, true, false, not, ◌&&◌, ◌||◌, cond, List, [], ◌∷◌, map, ℕ, zero, suc, leb, eqb, length, take, set, replicate, Float, Ok, Err}
+use Rattle.std.specs.Prelude.{Bool, true, false, not, ◌&&◌, ◌||◌, cond, List, [], map, ℕ, zero, suc, leb, eqb, length, take, set, replicate, Float, Ok, Err}
 use Rattle.std.proofs.Math.Option.{Option, none, some}
 use Rattle.tag.specs.Tags.{Tag, is, overlong, empty, numbered}
 use Rattle.component.specs.Value.{input_count}
@@ -9,7 +9,7 @@ use Rattle.component.specs.declared.parameter.Data.{Data}
 use Rattle.component.specs.declared.parameter.ParameterError.TheVariants.{DoesNotFit, TooNear}
 use Rattle.component.specs.declared.model_component.Component.{Component}
 use Rattle.component.specs.declared.model_component.Component.TheVariants.{Constant}
-use Rattle.model.specs.Table.{any, Table, find, held, cut, put, each, move}
+use Rattle.model.specs.Table.{any, Table, held, cut, put, each, move}
 use Rattle.model.specs.Model.{Place, Model, component, list, valid}
 use Rattle.model.specs.Walk.{Walked, clear, met, gapped, walk_from}
 

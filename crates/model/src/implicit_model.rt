@@ -1,7 +1,9 @@
 // The record of a model: fixed tables whose first rows, by the counts, are live.
-ghost use Rattle.std.specs.Prelude.{◌≡◌, min, length, take};
-ghost use Rattle.tag.specs.Tags.{Tag as Bytes};
-ghost use Rattle.tag.specs.View.{bytes_of};
+ghost use Rattle.std.specs.Prelude.{◌≡◌, min, length, take, false, pos};
+ghost use Rattle.std.specs.Float.{fin};
+ghost use Rattle.tag.specs.Tags.{Tag as Bytes, empty};
+ghost use Rattle.tag.specs.View.{bytes_of, Made};
+ghost use Rattle.component.specs.declared.model_component.Component.TheVariants.{Constant};
 
 use component::model_component::Component;
 use tag::Tag;
@@ -15,15 +17,27 @@ pub struct ComponentEntry {
     pub component: Component,
 }
 
-// Kept: memory is fixed, so the places stand in an array with their count beside it.
-#[derive(Clone, Copy)]
+// The empty tag with the number 0: what an unused row holds.
+impl Default for ComponentEntry {
+    ghost is_default = { λ e. Made empty e.tag × (e.component ≡ Constant (fin false 0 (pos 0))) };
+
+    fn default() -> ComponentEntry {
+        ComponentEntry {
+            tag: Tag::default(),
+            component: Component::Constant(0.0),
+        }
+    }
+}
+
+// Kept: an array with a count beside it, since a count past the size is legal input, which 7 refuses, and document 01 fixes the table.
+#[derive(Clone, Copy, Default)]
 pub struct InputList {
     pub tag: Tag,
     pub count: usize,
     pub places: [Place; 3],
 }
 
-// Kept: memory is fixed, so each table is an array with its count beside it.
+// Kept: each table is an array with a count beside it, for the same reason.
 #[derive(Clone, Copy)]
 pub struct Model {
     pub components: [ComponentEntry; 64],

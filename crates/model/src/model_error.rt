@@ -10,40 +10,26 @@ use tag::{Tag, TagTooLong};
 // The refusals. Document 01's number of each is `number_of` in specs/Answer.antt.
 #[derive(Clone, Copy, Debug, PartialEq, Eq)]
 pub enum ModelError {
-    TagTooLong,
-    IncorrectInputCount,
-    InputIndexOutOfRange,
-    ParameterDoesNotFit,
-    ParameterTooNear,
-    InvalidModel,
-    DuplicateTag,
-    MissingTag,
-    MissingInput,
-    CyclicDependency,
-    ComponentsFull,
-    ListsFull,
-    NumberedTagTooLong,
+    TagTooLong = 1,
+    IncorrectInputCount = 2,
+    InputIndexOutOfRange = 3,
+    ParameterDoesNotFit = 4,
+    ParameterTooNear = 5,
+    InvalidModel = 7,
+    DuplicateTag = 11,
+    MissingTag = 12,
+    MissingInput = 13,
+    CyclicDependency = 14,
+    ComponentsFull = 15,
+    ListsFull = 16,
+    NumberedTagTooLong = 17,
 }
 
 impl From<ModelError> for u32 {
     ghost from_gives = { λ e n. n ≡ number_of e };
 
     fn from(e: ModelError) -> u32 {
-        match e {
-            ModelError::TagTooLong => 1,
-            ModelError::IncorrectInputCount => 2,
-            ModelError::InputIndexOutOfRange => 3,
-            ModelError::ParameterDoesNotFit => 4,
-            ModelError::ParameterTooNear => 5,
-            ModelError::InvalidModel => 7,
-            ModelError::DuplicateTag => 11,
-            ModelError::MissingTag => 12,
-            ModelError::MissingInput => 13,
-            ModelError::CyclicDependency => 14,
-            ModelError::ComponentsFull => 15,
-            ModelError::ListsFull => 16,
-            ModelError::NumberedTagTooLong => 17,
-        }
+        e as u32
     }
 }
 

@@ -14,23 +14,24 @@ use tag::{Tag, tag_of};
 pub fn type_name(c: Component) -> Tag
     ensures { Labelled (type_name c) result }
 {
-    match c {
-        Component::Constant(_) => tag_of(b"Constant"),
-        Component::Sphere(_) => tag_of(b"Sphere"),
-        Component::Torus(_) => tag_of(b"Torus"),
-        Component::Multiply => tag_of(b"Multiply"),
-        Component::Add => tag_of(b"Add"),
-        Component::Subtract => tag_of(b"Subtract"),
-        Component::Divide => tag_of(b"Divide"),
-        Component::Lerp(_) => tag_of(b"Lerp"),
-        Component::VariableLerp => tag_of(b"VariableLerp"),
-        Component::Remap { .. } => tag_of(b"Remap"),
-        Component::BooleanUnion => tag_of(b"BooleanUnion"),
-        Component::BooleanIntersection => tag_of(b"BooleanIntersection"),
-        Component::BooleanDifference => tag_of(b"BooleanDifference"),
-        Component::Offset(_) => tag_of(b"Offset"),
-        Component::Thickness(_) => tag_of(b"Thickness"),
-    }
+    let name: &[u8] = match c {
+        Component::Constant(_) => b"Constant",
+        Component::Sphere(_) => b"Sphere",
+        Component::Torus(_) => b"Torus",
+        Component::Multiply => b"Multiply",
+        Component::Add => b"Add",
+        Component::Subtract => b"Subtract",
+        Component::Divide => b"Divide",
+        Component::Lerp(_) => b"Lerp",
+        Component::VariableLerp => b"VariableLerp",
+        Component::Remap { .. } => b"Remap",
+        Component::BooleanUnion => b"BooleanUnion",
+        Component::BooleanIntersection => b"BooleanIntersection",
+        Component::BooleanDifference => b"BooleanDifference",
+        Component::Offset(_) => b"Offset",
+        Component::Thickness(_) => b"Thickness",
+    };
+    tag_of(name)
 }
 
 // The name of each parameter of the component, and what it takes.

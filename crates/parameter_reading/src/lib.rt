@@ -1,18 +1,17 @@
 // A parameter read.
-#![tactic(auto, using(crate::proofs::Named::or_under), unfolding(component::specs::Parameter::read_parameter, component::specs::Parameter::name_value, component::specs::Parameter::name_centre, component::specs::Parameter::name_radius, component::specs::Parameter::name_thickness, component::specs::Parameter::name_factor, component::specs::Parameter::name_from_min, component::specs::Parameter::name_from_max, component::specs::Parameter::name_to_min, component::specs::Parameter::name_to_max, component::specs::Parameter::name_distance))]
+#![tactic(auto, using(tag::specs::Comparing::pointwise_is, crate::proofs::Named::or_under), unfolding(component::specs::Parameter::read_parameter, component::specs::Parameter::name_value, component::specs::Parameter::name_centre, component::specs::Parameter::name_radius, component::specs::Parameter::name_thickness, component::specs::Parameter::name_factor, component::specs::Parameter::name_from_min, component::specs::Parameter::name_from_max, component::specs::Parameter::name_to_min, component::specs::Parameter::name_to_max, component::specs::Parameter::name_distance))]
 
 ghost use Rattle.std.specs.Prelude.{◌≡◌};
 ghost use Rattle.component.specs.Parameter.{under, read_parameter};
 
 use component::model_component::Component;
 use component::parameter::Data;
-use tag::bytes::same_bytes;
 
 // The data, where the name is the one wanted.
 fn read_named(name: &[u8], wanted: &[u8], data: Data) -> Option<Data>
     ensures { result ≡ under name.now wanted.now «data» None }
 {
-    same_bytes(name, wanted).then_some(data)
+    (name == wanted).then_some(data)
 }
 
 // The data under a name. A constant's number is under `Value`.

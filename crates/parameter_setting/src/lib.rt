@@ -1,5 +1,5 @@
 // A parameter set.
-#![tactic(auto, unfolding(component::specs::Parameter::set_value, component::specs::Parameter::set_vec3, component::specs::Parameter::set_parameter, component::specs::Parameter::name_centre, component::specs::Parameter::name_radius, component::specs::Parameter::name_thickness, component::specs::Parameter::name_factor, component::specs::Parameter::name_from_min, component::specs::Parameter::name_from_max, component::specs::Parameter::name_to_min, component::specs::Parameter::name_to_max, component::specs::Parameter::name_distance))]
+#![tactic(auto, using(tag::specs::Comparing::pointwise_is), unfolding(component::specs::Parameter::set_value, component::specs::Parameter::set_vec3, component::specs::Parameter::set_parameter, component::specs::Parameter::name_centre, component::specs::Parameter::name_radius, component::specs::Parameter::name_thickness, component::specs::Parameter::name_factor, component::specs::Parameter::name_from_min, component::specs::Parameter::name_from_max, component::specs::Parameter::name_to_min, component::specs::Parameter::name_to_max, component::specs::Parameter::name_distance))]
 
 ghost use Rattle.std.specs.Prelude.{◌≡◌, cond};
 ghost use Rattle.tag.specs.Tags.{is};
@@ -11,13 +11,12 @@ use component::range::Range;
 use geometry::vec3f::Vec3;
 use shapes::sphere::Sphere;
 use shapes::torus::Torus;
-use tag::bytes::same_bytes;
 
 // The change, where the name is the one wanted.
 fn set_named(name: &[u8], wanted: &[u8], changed: Component) -> Result<Component, ParameterError>
     ensures { result ≡ cond (is name.now wanted.now) (Ok changed) (Err ParameterError.DoesNotFit) }
 {
-    if !same_bytes(name, wanted) {
+    if name != wanted {
         return Err(ParameterError::DoesNotFit);
     }
     Ok(changed)
@@ -27,38 +26,26 @@ fn set_named(name: &[u8], wanted: &[u8], changed: Component) -> Result<Component
 fn set_torus(torus: Torus, name: &[u8], v: f64) -> Result<Component, ParameterError>
     ensures { result ≡ set_value (Component.Torus torus) name.now v }
 {
-    if same_bytes(name, b"Radius") {
+    if name == b"Radius".as_slice() {
         Ok(Component::Torus(Torus { r: v, ..torus }))
-    } else if same_bytes(name, b"Thickness") {
+    } else if name == b"Thickness".as_slice() {
         Ok(Component::Torus(Torus { t: v, ..torus }))
     } else {
         Err(ParameterError::DoesNotFit)
     }
 }
 
-// The operation that maps one range to the other.
-fn remap(from: Range, to: Range) -> Component
-    ensures { result ≡ Component.Remap from.min from.max to.min to.max }
-{
-    Component::Remap {
-        from_min: from.min,
-        from_max: from.max,
-        to_min: to.min,
-        to_max: to.max,
-    }
-}
-
 fn set_remap(from: Range, to: Range, name: &[u8], v: f64) -> Result<Component, ParameterError>
     ensures { result ≡ set_value (Component.Remap from.min from.max to.min to.max) name.now v }
 {
-    if same_bytes(name, b"FromMin") {
-        Ok(remap(Range::new(v, from.max).with_ends_apart()?, to))
-    } else if same_bytes(name, b"FromMax") {
-        Ok(remap(Range::new(from.min, v).with_ends_apart()?, to))
-    } else if same_bytes(name, b"ToMin") {
-        Ok(remap(from, Range::new(v, to.max).with_ends_apart()?))
-    } else if same_bytes(name, b"ToMax") {
-        Ok(remap(from, Range::new(to.min, v).with_ends_apart()?))
+    if name == b"FromMin".as_slice() {
+        Ok(Component::remap(Range::new(v, from.max).with_ends_apart()?, to))
+    } else if name == b"FromMax".as_slice() {
+        Ok(Component::remap(Range::new(from.min, v).with_ends_apart()?, to))
+    } else if name == b"ToMin".as_slice() {
+        Ok(Component::remap(from, Range::new(v, to.max).with_ends_apart()?))
+    } else if name == b"ToMax".as_slice() {
+        Ok(Component::remap(from, Range::new(to.min, v).with_ends_apart()?))
     } else {
         Err(ParameterError::DoesNotFit)
     }

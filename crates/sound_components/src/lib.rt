@@ -12,17 +12,14 @@ use model::implicit_model::{ComponentEntry, Model};
 fn entry_sound(m: &Model, e: &ComponentEntry) -> bool
     ensures { result ≡ entry_sound (lists_of m.now) e.now }
 {
-    if 32 < e.tag.len {
+    if !e.tag.fits() {
         return false;
     }
     let takes = e.component.input_count();
     if takes == 0 {
         return true;
     }
-    match get_inputs(m, e.tag) {
-        Some(list) => list.live_places().len() == takes,
-        None => false,
-    }
+    get_inputs(m, e.tag).is_some_and(|list| list.live_places().len() == takes)
 }
 
 // Whether every component is sound.

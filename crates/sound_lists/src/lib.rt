@@ -11,7 +11,7 @@ use model::implicit_model::{InputList, Place};
 pub fn place_fits(p: &Place) -> bool
     ensures { result ≡ place_fits p.now }
 {
-    p.is_none_or(|t| t.len <= 32)
+    p.is_none_or(|t| t.fits())
 }
 
 // Whether a list has 1 to 3 places and its tags are within their size.
@@ -19,7 +19,7 @@ fn list_sound(l: &InputList) -> bool
     ensures { result ≡ list_sound l.now }
 {
     let places = l.live_places();
-    l.tag.len <= 32 && 1 <= l.count && l.count <= 3 && places.iter().all(place_fits)
+    l.tag.fits() && (1..=3).contains(&l.count) && places.iter().all(place_fits)
 }
 
 // Whether every input list is sound.

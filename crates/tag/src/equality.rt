@@ -11,7 +11,8 @@ impl PartialEq for Tag {
 
     ghost laws = { partial_equiv_from_equiv (on_equiv bytes_of is_equivalence) };
 
-    // From the back: numbered tags differ at their end.
+    // Kept: no `==` of the slices. Numbered tags differ at their end, and from the back each is told apart at its first byte or
+    // so; `==` starts at the front, and was slower in compile and evaluate_at.
     fn eq(&self, other: &Tag) -> bool {
         let (a, b) = (self.as_bytes(), other.as_bytes());
         a.len() == b.len() && a.iter().rev().eq(b.iter().rev())

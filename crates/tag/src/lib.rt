@@ -1,14 +1,13 @@
 // Tags: byte strings of at most 32 bytes.
 #![tactic(auto)]
 
-pub mod bytes;
 pub mod equality;
 pub mod numbered;
 pub mod order;
 
-ghost use Rattle.std.specs.Prelude.{◌≡◌, ◌≤◌, true, false, min, take, length, MatchResult};
-ghost use Rattle.tag.specs.Tags.{is, empty, overlong};
-ghost use Rattle.tag.specs.View.{bytes_of, Made};
+ghost use Rattle.std.specs.Prelude.{◌≡◌, ◌≤◌, true, false, take, length, MatchResult};
+ghost use Rattle.tag.specs.Tags.{empty, overlong};
+ghost use Rattle.tag.specs.View.{bytes_of, tag_fits, Made};
 
 // Kept: a buffer with a length beside it, for memory is fixed, and a length past 32 is input that the crates above refuse.
 #[derive(Clone, Copy)]
@@ -25,6 +24,14 @@ impl Tag {
     {
         &self.bytes[..self.len.min(32)]
     }
+
+    // Whether its length is within its size.
+    #[tactic(auto, unfolding(crate::specs::View::tag_fits))]
+    pub fn fits(&self) -> bool
+        ensures { result ≡ tag_fits self.now }
+    {
+        self.len <= 32
+    }
 }
 
 // The tag of no bytes.
@@ -37,13 +44,6 @@ impl Default for Tag {
             len: 0,
         }
     }
-}
-
-// The smaller of two numbers.
-pub fn at_most(n: usize, cap: usize) -> usize
-    ensures { result ≡ min n cap }
-{
-    n.min(cap)
 }
 
 // The tag of the first 32 bytes: of all of them, where they are no more.
@@ -72,18 +72,4 @@ impl TryFrom<&[u8]> for Tag {
         }
         Ok(tag_of(t))
     }
-}
-
-// The tag of no bytes.
-pub fn empty_tag() -> Tag
-    ensures { Made empty result }
-{
-    Tag::default()
-}
-
-// Whether two tags are the same bytes.
-pub fn same_tag(a: Tag, b: Tag) -> bool
-    ensures { result ≡ is (bytes_of a) (bytes_of b) }
-{
-    a == b
 }

@@ -1,9 +1,8 @@
 // The byte order of tags, a prefix first.
-ghost use Rattle.std.specs.Prelude.{◌≡◌, refl};
+ghost use Rattle.std.specs.Prelude.{refl};
 ghost use Rattle.std.specs.Cmp.{po};
 ghost use Rattle.std.specs.Cmp.Lexicographic.{slice_cmp, on_texts};
 ghost use Rattle.std.specs.Ordering.{nat_cmp, as_partial_cmp, on};
-ghost use Rattle.tag.specs.Tags.{before};
 ghost use Rattle.tag.specs.View.{bytes_of};
 ghost use Rattle.tag.specs.Comparing.{is_ties};
 
@@ -32,11 +31,4 @@ impl Ord for Tag {
     fn cmp(&self, other: &Tag) -> Ordering {
         self.as_bytes().cmp(other.as_bytes())
     }
-}
-
-// Whether a stands ahead of b.
-pub fn comes_before(a: Tag, b: Tag) -> bool
-    ensures { result ≡ before (bytes_of a) (bytes_of b) }
-{
-    a < b
 }

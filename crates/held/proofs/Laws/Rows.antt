@@ -2,7 +2,7 @@
 use mathlib.Core.Path.{◌≡◌, refl, sym, ◌∙◌, ap}
 use mathlib.Core.Bool.{Bool, true, false, ◌&&◌}
 use mathlib.Core.List.{List, [], ◌∷◌, ◌++◌, map}
-use Prim.Native.Nat.{ℕ, zero, suc, ◌+◌, ◌<◌, ◌≤◌, min}
+use Prim.Native.Nat.{ℕ, ◌+◌, ◌<◌, ◌≤◌, min}
 use native.Mathlib.Numerals.{add-one}
 use native.Mathlib.Omega.{arith}
 use lib.ListN.{take, drop, length, get_or, set, length-take, length-map, get_or-map, drop_of_length-le}
@@ -12,6 +12,7 @@ use Rattle.tag.specs.declared.Tag.{Tag as Label}
 use Rattle.component.specs.declared.model_component.Component.TheVariants.{Constant}
 use Rattle.std.specs.Prelude.{None}
 use Rattle.std.specs.List.{list_all}
+use Rattle.std.proofs.lemmas.List.{map-append, map-set, take-map}
 use Rattle.model.specs.declared.implicit_model.ComponentEntry.{ComponentEntry}
 use Rattle.model.specs.declared.implicit_model.InputList.{InputList}
 use Rattle.model.specs.View.{PlaceRecord, rows, every}
@@ -29,20 +30,6 @@ no_entry = record { tag = no_tag; component = Constant nan }
 
 abbrev pub no_list : InputList
 no_list = record { tag = no_tag; count = 0; places = [] }
-
-map-set : {A B : Type 0} (g : A → B) (xs : List A) (i : ℕ) (x : A) → map g (set xs i x) ≡ set (map g xs) i (g x)
-map-set g [] i x = refl
-map-set g (y ∷ xs) zero x = refl
-map-set {B = B} g (y ∷ xs) (suc i) x = ap (λ (l : List B). g y ∷ l) (map-set g xs i x)
-
-map-append : {A B : Type 0} (g : A → B) (xs ys : List A) → map g (xs ++ ys) ≡ map g xs ++ map g ys
-map-append g [] ys = refl
-map-append {B = B} g (x ∷ xs) ys = ap (λ (l : List B). g x ∷ l) (map-append g xs ys)
-
-map-take : {A B : Type 0} (g : A → B) (n : ℕ) (xs : List A) → map g (take n xs) ≡ take n (map g xs)
-map-take g zero xs = refl
-map-take g (suc n) [] = refl
-map-take {B = B} g (suc n) (x ∷ xs) = ap (λ (l : List B). g x ∷ l) (map-take g n xs)
 
 module _ {A B : Type 0} (g : A → B) (table : List A) where
   pub rows-length : (n : ℕ) → length (rows g n table) ≡ min n (length table)
@@ -66,7 +53,7 @@ module _ {A B : Type 0} (g : A → B) (table : List A) where
 
   pub rows_less : (n k : ℕ) → k ≤ n → rows g k table ≡ take k (rows g n table)
   unfolding rows
-  rows_less n k h = ap (map g) (sym (take-take k n table h)) ∙ map-take g k (take n table)
+  rows_less n k h = ap (map g) (sym (take-take k n table h)) ∙ sym (take-map g k (take n table))
 
   -- a slice of the live rows
   pub rows-live : {xs : List A} (count cap : ℕ) → xs ≡ take count table → length xs ≡ min count cap → Live (rows g count table) count cap (length xs)

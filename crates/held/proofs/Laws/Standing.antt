@@ -29,14 +29,15 @@ passes-valid m p = and_T₂ (fits m) (valid (view m)) (true→T _ p)
 pub standing : (m : Record) → passes m ≡ true → Standing m
 unfolding passes fits view
 standing m p =
-    let s = passed (sizes m) (and_T₁ (every (sizes m)) (valid (view m)) (true→T (every (sizes m) && valid (view m)) p)) in
-    let g = good (view m) (and_T₂ (every (sizes m)) (valid (view m)) (true→T (every (sizes m) && valid (view m)) p)) in
+    let test = true→T (every (sizes m) && valid (view m)) p in
+    let (few, (few_lists, (entries, (lists, (default, _))))) = passed (sizes m) (and_T₁ (every (sizes m)) (valid (view m)) test) in
+    let g = good (view m) (and_T₂ (every (sizes m)) (valid (view m)) test) in
     record {
-      few = leb→le m.component_count 64 s.0;
-      few_lists = leb→le m.list_count 128 s.1.0;
-      entries = s.1.1.0;
-      lists = s.1.1.1.0;
-      default = s.1.1.1.1.0;
+      few = leb→le m.component_count 64 few;
+      few_lists = leb→le m.list_count 128 few_lists;
+      entries = entries;
+      lists = lists;
+      default = default;
       once = g.once;
       once-lists = g.once-lists;
     }

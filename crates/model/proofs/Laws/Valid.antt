@@ -203,17 +203,17 @@ valid_passed m h = passed (tests m) h
 
 pub good : (m : Model) → T (valid m) → Good m
 good m v =
-    let p = valid_passed m v in
+    let (few, (few_lists, (short, (short-lists, (places, (once, (once-lists, (counts, (names, _))))))))) = valid_passed m v in
     record {
-      few = leb→le _ _ p.0;
-      few_lists = leb→le _ _ p.1.0;
-      once = p.1.1.1.1.1.0;
-      once-lists = p.1.1.1.1.1.1.0;
-      short = λ t c e. all-find short_tag m.components t p.1.1.0 e;
-      short-lists = λ t l e. all-find short_tag m.lists t p.1.1.1.0 e;
-      places = λ t l e. all-find good_list m.lists t p.1.1.1.1.0 e;
-      counts = λ t c e. all-find (listed m.lists) m.components t p.1.1.1.1.1.1.1.0 e;
-      names = p.1.1.1.1.1.1.1.1.0;
+      few = leb→le _ _ few;
+      few_lists = leb→le _ _ few_lists;
+      once = once;
+      once-lists = once-lists;
+      short = λ t c e. all-find short_tag m.components t short e;
+      short-lists = λ t l e. all-find short_tag m.lists t short-lists e;
+      places = λ t l e. all-find good_list m.lists t places e;
+      counts = λ t c e. all-find (listed m.lists) m.components t counts e;
+      names = names;
     }
 
 pub good_valid : (m : Model) → Good m → T (valid m)

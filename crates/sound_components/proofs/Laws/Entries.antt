@@ -1,14 +1,14 @@
 -- A component as 7 judges it. Assumes nothing.
-use mathlib.Core.Path.{◌≡◌, refl, sym, ◌∙◌}
+use mathlib.Core.Path.{◌≡◌, refl, sym, ◌∙◌, ap}
 use mathlib.Core.Logic.{◌≢◌}
 use mathlib.Core.Bool.{true, false}
 use mathlib.Core.List.{List}
-use mathlib.Core.Option.{Option, none, some}
+use mathlib.Core.Option.{none, some}
 use Prim.Native.Nat.{ℕ, zero, suc, ◌<◌, ◌≤◌}
 use lib.Dec.{eqb}
-use lib.ListN.{length}
+use lib.ListN.{take, length, length-map}
 use borrow.Author.Tests.{le-leb, lt-leb}
-use Rattle.std.specs.Prelude.{Some, None}
+use Rattle.std.specs.Prelude.{Bool, Option, Some, None, MatchOption}
 use Rattle.tag.specs.Tags.{Tag}
 use Rattle.tag.specs.View.{bytes_of, tag_fits}
 use Rattle.component.specs.Value.{input_count}
@@ -18,11 +18,10 @@ use Rattle.model.specs.declared.implicit_model.Model.{Model as Record}
 use Rattle.model.specs.Table.{Table, find}
 use Rattle.model.specs.Model.{Place, counted, list}
 use Rattle.model.specs.View.{place_of, rows, lists_of, view}
+use Rattle.model.proofs.Laws.Bool.{T→true}
+use Rattle.model.proofs.Laws.Places.{counted-zero}
 use Rattle.held.specs.Reading.{places_read}
 use Rattle.sound_components.specs.Sound.{entry_sound}
-
-counted-zero : (n : ℕ) (o : Option (List Place)) → n ≡ 0 → counted n o ≡ true
-counted-zero n o e = rw e
 
 counted_none : (n : ℕ) → n ≢ 0 → counted n none ≡ false
 counted_none zero h = absurd (h refl)
@@ -43,7 +42,7 @@ module _ (ls : Table (List Place)) (e : ComponentEntry) where
     short' = le-leb e.tag.len 32 short
 
     pub entry-plain : n ≡ 0 → entry_sound ls e ≡ true
-    entry-plain z = rw (short', counted-zero (input_count e.component) (find (bytes_of e.tag) ls) (sym takes ∙ z))
+    entry-plain z = rw (short', T→true _ (counted-zero (input_count e.component) (find (bytes_of e.tag) ls) (sym takes ∙ z)))
 
     pub entry-missing : n ≢ 0 → find (bytes_of e.tag) ls ≡ none → entry_sound ls e ≡ false
     entry-missing z p = rw (short', p, counted_none (input_count e.component) (λ q. z (takes ∙ q)))
@@ -61,3 +60,11 @@ module _ (m : Record) (t : Tag) where
   pub places_at : (l : InputList) → places_read (Some l) ≡ list (view m) t → find t (lists_of m) ≡ some (rows place_of l.count l.places)
   unfolding places_read view
   places_at l h = sym h
+
+-- a test of the list that was read, where it is one of the places
+module _ (m : Record) (e : ComponentEntry) (short : e.tag.len ≤ 32) (n : ℕ) (takes : n ≡ input_count e.component) (z : n ≢ 0) where
+  pub judged : (o : Option InputList) (r : Bool) {P : InputList → Type 0} → ((l : InputList) → P l → r ≡ eqb (length (take l.count l.places)) n)
+      → places_read o ≡ list (view m) (bytes_of e.tag) → MatchOption o (r ≡ false) P → r ≡ entry_sound (lists_of m) e
+  unfolding rows
+  judged None r f h k = k ∙ sym (entry-missing (lists_of m) e short n takes z (unread m (bytes_of e.tag) h))
+  judged (Some l) r f h k = f l k ∙ ap (λ (i : ℕ). eqb i n) (sym (length-map (take l.count l.places) place_of)) ∙ sym (entry_found (lists_of m) e short n takes z (rows place_of l.count l.places) (places_at m (bytes_of e.tag) l h))

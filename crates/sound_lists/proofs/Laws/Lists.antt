@@ -81,18 +81,14 @@ pub places-short : (l : InputList) → T (every (rows place_fits l.count l.place
 places-short l h = subst T (sym (all-rows short_place place_of l.count l.places)) (imply_rows place_fits (λ p. short_place (place_of p)) place_short l.count l.places h)
 
 module _ (l : InputList) (size : length (rows place_of l.count l.places) ≡ min l.count 3) where
-  pub list-long : 32 < l.tag.len → false ≡ list_sound l
-  unfolding list_fits tag_fits
-  list-long h = sym (rw (lt-leb l.tag.len 32 h))
+  pub list-long : tag_fits l.tag ≡ false → false ≡ list_sound l
+  unfolding list_fits
+  list-long h = sym (rw h)
 
-  pub list-none : l.count < 1 → false ≡ list_sound l
-  list-none h = bool_ext false (list_sound l) (λ z. absurd z)
+  pub list-outside : (1 ≤ l.count → l.count ≤ 3 → ⊥) → false ≡ list_sound l
+  list-outside h = bool_ext false (list_sound l) (λ z. absurd z)
       (λ t. let q : 1 ≤ length (rows place_of l.count l.places) = leb→le 1 (length (rows place_of l.count l.places)) (and_T₁ (leb 1 (length (rows place_of l.count l.places))) (leb (length (rows place_of l.count l.places)) 3 && all short_place (rows place_of l.count l.places)) (and_T₂ (list_fits l) (good_list (list_of l)) t)) in
-      let z : ⊥ = omega arith in z)
-
-  pub list-many : 3 < l.count → false ≡ list_sound l
-  list-many h = bool_ext false (list_sound l) (λ z. absurd z)
-      (λ t. let q : l.count ≤ 3 = leb→le l.count 3 (list_parts l (and_T₁ (list_fits l) (good_list (list_of l)) t)).1.0 in let z : ⊥ = omega arith in z)
+      h (omega arith) (leb→le l.count 3 (list_parts l (and_T₁ (list_fits l) (good_list (list_of l)) t)).1.0))
 
   pub list-sound : l.tag.len ≤ 32 → 1 ≤ l.count → l.count ≤ 3 → every (rows place_fits l.count l.places) ≡ list_sound l
   unfolding list_fits tag_fits
