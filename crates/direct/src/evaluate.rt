@@ -9,12 +9,12 @@ use geometry::vec3f::Vec3;
 use standing::wired;
 
 // The bits of the target's number at a point, where the bytes tell it.
-pub fn evaluate_in(s: &[u8], target: &[u8], x: f64, y: f64, z: f64) -> Option<u64>
-    ensures { IfSome result (EvaluatesIn s.now target.now x y z) }
+pub fn evaluate_in(s: &[u8], target: &[u8], p: Vec3) -> Option<u64>
+    ensures { IfSome result (EvaluatesIn s.now target.now p) }
 {
     let standing = wired(s)?;
     let t = standing.row_of(s, target)?;
     let line = line_of(&standing.wires, t);
-    let number = number_along(s, &standing, line.as_slice(), t, Vec3 { x, y, z })?;
+    let number = number_along(s, &standing, line.as_slice(), t, p)?;
     Some(bits_of(number))
 }

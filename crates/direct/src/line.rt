@@ -4,7 +4,7 @@ ghost use Rattle.std.specs.Prelude.{◌≤◌};
 use standing::Wire;
 
 // Rows in order, as many as there are components at most.
-// Kept: an array with its count, since there is no heap.
+// Kept: memory is fixed, so the rows stand in an array with their count beside it.
 #[derive(Clone, Copy)]
 pub(crate) struct Rows {
     at: [usize; 64],

@@ -9,6 +9,8 @@ use Rattle.model.specs.declared.model_error.Refusal.{Refusal}
 use Rattle.model.specs.Answer.{number_of}
 use Rattle.model.specs.Form.{Reply, bits, handed, Evaluated}
 use Rattle.model.specs.View.{view, passes}
+use Rattle.nodes.specs.declared.Wire.{Wire}
+use Rattle.nodes.specs.declared.Wire.TheVariants.{To, Absent, Gap, Past}
 use Rattle.graph.specs.declared.computation_graph.Graph.{Graph}
 use Rattle.graph.specs.Compile.{OrdersAs}
 
@@ -27,8 +29,12 @@ pub record EvaluatesAs (m : Record) (t : Tag) (p : Vec3) (r : Result ℕ Refusal
 
 -- ---- what the helpers promise
 
-abbrev pub input_of : List Float → ℕ → Float
-input_of vals i = cond (ltb i 64) (get_or vals i nan) nan
+-- the number that a wire brings, of those worked so far
+abbrev pub input_of : List Float → Wire → Float
+input_of vals (To x) = cond (ltb x 64) (get_or vals x nan) nan
+input_of vals Absent = nan
+input_of vals Gap = nan
+input_of vals Past = nan
 
 -- some target's order
 pub record Workable (m : Record) (g : Graph) : Type 0 where

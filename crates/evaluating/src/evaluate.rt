@@ -4,19 +4,24 @@ ghost use Rattle.tag.specs.Tags.{Tag as Bytes};
 ghost use Rattle.model.specs.Form.{Number};
 ghost use Rattle.model.specs.View.{view};
 ghost use Rattle.graph.specs.Compile.{OrdersAs};
-ghost use Rattle.evaluating.specs.Evaluate.{input_of, Workable, EvaluatesAs, point_of};
+ghost use Rattle.evaluating.specs.Evaluate.{input_of, Workable, EvaluatesAs};
 
 use float::bits::bits_of;
 use geometry::vec3f::Vec3;
 use graph::computation_graph::{Graph, compile};
 use model::implicit_model::Model;
 use model::model_error::Refusal;
+use nodes::Wire;
 
-// The number of an input; NaN where a component has no such place, which it does not read.
-fn input(vals: &[f64; 64], i: usize) -> f64
-    ensures { result ≡ input_of vals.now i }
+// The number that a wire brings; NaN where it leads to no component: such a place is not read.
+#[tactic(auto, using(crate::proofs::Laws::Along::nan_is))]
+fn input(vals: &[f64; 64], wire: Wire) -> f64
+    ensures { result ≡ input_of vals.now wire }
 {
-    if i < 64 { vals[i] } else { 0.0 / 0.0 }
+    match wire {
+        Wire::To(x) if x < 64 => vals[x as usize],
+        _ => f64::NAN,
+    }
 }
 
 // The number of the last component of an order, worked along it.
@@ -29,23 +34,24 @@ fn number_along(m: &Model, g: &Graph, p: Vec3) -> f64
     for k in 0..g.count {
         let x = g.order[k];
         let c = m.components[x].component;
-        let a = input(&vals, g.inputs[x * 3]);
-        let b = input(&vals, g.inputs[x * 3 + 1]);
-        let d = input(&vals, g.inputs[x * 3 + 2]);
+        let [first, second, third] = g.inputs[x];
+        let a = input(&vals, first);
+        let b = input(&vals, second);
+        let d = input(&vals, third);
         vals[x] = c.compute(p, a, b, d);
     }
     vals[g.order[g.count - 1]]
 }
 
 // The bits of the number of the target's form at a point, or compile's refusal handed on.
-pub fn evaluate_at(m: &Model, target: &[u8], x: f64, y: f64, z: f64) -> Result<u64, Refusal>
-    ensures { EvaluatesAs m.now target.now (point_of x y z) result }
+pub fn evaluate_at(m: &Model, target: &[u8], p: Vec3) -> Result<u64, Refusal>
+    ensures { EvaluatesAs m.now target.now p result }
 {
     let compiled = compile(m, target);
     let Ok(graph) = compiled else {
         // It is the refusal.
         return compiled.and(Ok(0));
     };
-    let number = number_along(m, &graph, Vec3 { x, y, z });
+    let number = number_along(m, &graph, p);
     Ok(bits_of(number))
 }

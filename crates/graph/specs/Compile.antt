@@ -1,5 +1,5 @@
 -- Document 01's compile as a promise about the record that it answers with. Definitions only.
-use Rattle.std.specs.Prelude.{ℕ, ◌+◌, ◌*◌, ◌≤◌, ◌<◌, min, ◌≡◌, Bool, true, false, Some, Result, Ok, Err, length, get_or, take}
+use Rattle.std.specs.Prelude.{ℕ, ◌≤◌, ◌<◌, min, ◌≡◌, Bool, true, false, Some, Result, Ok, Err, length, get_or, take}
 use mathlib.Core.List.{List, [], map, Memᴰ}
 use Rattle.tag.specs.Tags.{Tag, empty, overlong}
 use Rattle.tag.specs.View.{bytes_of}
@@ -12,6 +12,8 @@ use Rattle.model.specs.Model.{inputs}
 use Rattle.model.specs.Form.{ordered, stopped, Compiled}
 use Rattle.model.specs.View.{components_of, view, passes}
 use Rattle.graph.specs.declared.computation_graph.Graph.{Graph}
+use Rattle.nodes.specs.declared.Wire.{Wire}
+use Rattle.nodes.specs.declared.Wire.TheVariants.{Past}
 use Rattle.nodes.specs.Nodes.{LaysOut, Marks, Copied}
 use Rattle.resolving.specs.Slots.{place_want, node_of, settled, Resolved}
 use Rattle.graph.specs.Wiring.{Wired}
@@ -32,8 +34,8 @@ pub record OrdersAs (m : Record) (t : Tag) (g : Graph) : Type 0 where
   pub counted : length (positions_of g) ≡ g.count
   pub few : g.count ≤ 64
   pub held : (i : ℕ) → Memᴰ i (positions_of g) → i < length (components_of m)
-  -- what stands in the places of a component of the order: a component's position; 194 past the end of its list
-  pub wired : (i p : ℕ) → Memᴰ i (positions_of g) → p < 3 → get_or g.inputs (i * 3 + p) 0 ≡ settled m (place_want (inputs (view m) (tag_at m i)) p)
+  -- the wire in each place of a component of the order: to a component; Past where its list has no such place
+  pub wired : (i p : ℕ) → Memᴰ i (positions_of g) → p < 3 → get_or (get_or g.inputs i []) p Past ≡ settled m (place_want (inputs (view m) (tag_at m i)) p)
 
 -- a refusal: 7 first, then what document 01 defines
 pub record RefusesAs (m : Record) (t : Tag) (r : Refusal) : Type 0 where
@@ -52,13 +54,13 @@ pub record Filled (xs r : List ℕ) : Type 0 where
   pub same : take (length xs) r ≡ take 64 xs
 
 -- an order, with its wires
-pub record Placing (xs w : List ℕ) (g : Graph) : Type 0 where
+pub record Placing (xs : List ℕ) (w : List (List Wire)) (g : Graph) : Type 0 where
   pub count : g.count ≡ length xs
   pub order : Filled xs g.order
-  pub inputs : Copied 192 w g.inputs
+  pub inputs : Copied 64 w g.inputs
 
 -- the form of a target that 7, 1 and 14 let pass: its slots resolved, its wires drawn, its reach laid out
-pub record Formed (no : InputList) (m : Record) (t : Tag) (found w xs : List ℕ) (whole : Bool) (seen : List Bool) : Type 0 where
+pub record Formed (no : InputList) (m : Record) (t : Tag) (found w : List (List Wire)) (xs : List ℕ) (whole : Bool) (seen : List Bool) : Type 0 where
   pub fits : passes m ≡ true
   pub short : overlong t ≡ false
   pub live : min m.list_count (length m.lists) ≡ min m.list_count 128
@@ -70,5 +72,5 @@ pub record Formed (no : InputList) (m : Record) (t : Tag) (found w xs : List ℕ
   pub marked : Marks reach seen
 
 -- an answer to every target that has this form
-abbrev pub Judged : InputList → Record → List ℕ → List ℕ → List ℕ → List Bool → Result Graph Refusal → Type 0
+abbrev pub Judged : InputList → Record → List (List Wire) → List (List Wire) → List ℕ → List Bool → Result Graph Refusal → Type 0
 Judged d m found w xs seen r = (t : Tag) → Formed d m t found w xs false seen → CompilesAs m t r

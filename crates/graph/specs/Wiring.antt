@@ -1,14 +1,22 @@
--- The wires made of the numbers that the slots of the lists come to. Definitions only.
-use Rattle.std.specs.Prelude.{ℕ, ◌+◌, ◌*◌, ◌<◌, ◌≤◌, ◌≡◌, ◌≢◌, List, length, get_or}
+-- The wires of nodes, made of those of the lists' slots. Definitions only.
+use Rattle.std.specs.Prelude.{ℕ, ◌<◌, ◌≤◌, ◌≡◌, ◌≢◌, List, [], ◌∷◌, length, get_or, Some}
+use Rattle.nodes.specs.declared.Wire.{Wire}
+use Rattle.nodes.specs.declared.Wire.TheVariants.{Past}
+use Rattle.nodes.specs.Nodes.{wires_of}
+use Rattle.resolving.specs.Slots.{owner_of}
+
+-- what stands in the three places of a list, by its slots
+abbrev pub places_in : List (List Wire) → ℕ → List Wire
+places_in found l = get_or (get_or found l []) 1 Past ∷ get_or (get_or found l []) 2 Past ∷ get_or (get_or found l []) 3 Past ∷ []
 
 -- each list has a node of its own
-pub record Owned (found : List ℕ) (n : ℕ) : Type 0 where
+pub record Owned (found : List (List Wire)) (n : ℕ) : Type 0 where
   pub n_le : n ≤ 128
-  pub small : (l : ℕ) → l < n → get_or found (l * 4) 0 < 192
-  pub apart : (l k : ℕ) → l < n → k < n → get_or found (l * 4) 0 ≡ get_or found (k * 4) 0 → l ≡ k
+  pub small : (l : ℕ) → l < n → (x : ℕ) × (owner_of found l ≡ Some x)
+  pub apart : (l k : ℕ) → l < n → k < n → owner_of found l ≡ owner_of found k → l ≡ k
 
 -- a list's node has the list's places; any other node has none
-pub record Wired (found : List ℕ) (n : ℕ) (w : List ℕ) : Type 0 where
-  pub w_length : length w ≡ 576
-  pub own : (l p : ℕ) → l < n → p < 3 → get_or w (get_or found (l * 4) 0 * 3 + p) 0 ≡ get_or found (l * 4 + 1 + p) 0
-  pub free : (x p : ℕ) → x < 192 → p < 3 → ((l : ℕ) → l < n → get_or found (l * 4) 0 ≢ x) → get_or w (x * 3 + p) 0 ≡ 194
+pub record Wired (found : List (List Wire)) (n : ℕ) (w : List (List Wire)) : Type 0 where
+  pub w_length : length w ≡ 192
+  pub own : (l x : ℕ) → l < n → owner_of found l ≡ Some x → wires_of w x ≡ places_in found l
+  pub free : (x : ℕ) → x < 192 → ((l : ℕ) → l < n → owner_of found l ≢ Some x) → wires_of w x ≡ Past ∷ Past ∷ Past ∷ []

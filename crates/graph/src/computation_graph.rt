@@ -1,5 +1,5 @@
 // The compiled form: an order of its components, inputs ahead of users.
-ghost use Rattle.std.specs.Prelude.{◌≡◌, true, false, length};
+ghost use Rattle.std.specs.Prelude.{◌≡◌, true, false};
 ghost use Rattle.tag.specs.Tags.{overlong};
 ghost use Rattle.tag.specs.View.{bytes_of};
 ghost use Rattle.model.specs.View.{passes};
@@ -11,19 +11,19 @@ use crate::wiring::wires;
 use lacking::least::{least_absent, least_gap};
 use model::implicit_model::Model;
 use model::model_error::{ModelError, Refusal};
-use nodes::{LaidOut, lay_out};
+use nodes::{LaidOut, Wire, lay_out};
 use resolving::slots::{component_keys, resolve, target_node};
 use tag::Tag;
 use validity::check;
 
 // The order holds positions of the component table, as many as the count says.
-// inputs[x * 3 + p] is the position of the component in place p of the one at x; 64 or more where there is no such place.
+// inputs[x][p] is the wire in place p of the component at x: to a component, or Past where there is no such place. Of x outside the order nothing is said.
 // Kept: memory is fixed, so the order stands in an array with its count beside it.
 #[derive(Clone, Copy)]
 pub struct Graph {
     pub count: usize,
     pub order: [usize; 64],
-    pub inputs: [usize; 192],
+    pub inputs: [[Wire; 3]; 64],
 }
 
 // The first 64 nodes of an order.
@@ -37,18 +37,16 @@ fn positions(nodes: &[usize]) -> [usize; 64]
 }
 
 // The wires of the components.
-fn component_inputs(w: &[usize; 576]) -> [usize; 192]
-    requires { length w.now ≡ 576 }
-    ensures { Copied 192 w.now result }
+fn component_inputs(w: &[[Wire; 3]; 192]) -> [[Wire; 3]; 64]
+    ensures { Copied 64 w.now result }
 {
-    let mut o = [0; 192];
-    o.copy_from_slice(&w[..192]);
+    let mut o = [[Wire::Past; 3]; 64];
+    o.copy_from_slice(&w[..64]);
     o
 }
 
 // An order, with its wires.
-fn placed(order: &[usize], w: &[usize; 576]) -> Graph
-    requires { length w.now ≡ 576 }
+fn placed(order: &[usize], w: &[[Wire; 3]; 192]) -> Graph
     ensures { Placing order.now w.now result }
 {
     Graph {
@@ -61,12 +59,11 @@ fn placed(order: &[usize], w: &[usize; 576]) -> Graph
 // Compile after 7, 1 and 14, of a form that may lack something: 12, 13, or an order.
 fn placed_if_full(
     m: &Model,
-    found: &[usize; 512],
+    found: &[[Wire; 4]; 128],
     seen: &[bool; 192],
     order: &[usize],
-    w: &[usize; 576],
+    w: &[[Wire; 3]; 192],
 ) -> Result<Graph, Refusal>
-    requires { length w.now ≡ 576 }
     ensures { Judged no_list m.now found.now w.now order.now seen.now result }
 {
     if let Some(absent) = least_absent(m, found, seen) {

@@ -1,6 +1,8 @@
--- Nodes and their wires, as the code numbers them: what laying promises of numbers alone. Definitions only.
-use Rattle.std.specs.Prelude.{ℕ, ◌+◌, ◌*◌, ◌≤◌, ◌<◌, ◌≡◌, ◌↔◌, ◌⊎◌, Bool, true, false, cond, Option, Some, None, length, get_or, take, ltb}
+-- Nodes, as the code numbers them, and their wires: what laying promises of these alone. Definitions only.
+use Rattle.std.specs.Prelude.{ℕ, ◌≤◌, ◌<◌, ◌≡◌, ◌↔◌, ◌⊎◌, Bool, true, false, cond, Option, Some, None, length, get_or, take, ltb}
 use mathlib.Core.List.{List, [], ◌∷◌, ◌++◌, Memᴰ}
+use Rattle.nodes.specs.declared.Wire.{Wire}
+use Rattle.nodes.specs.declared.Wire.TheVariants.{To, Absent, Gap, Past}
 
 -- x stands in the list
 infix 4 ◌∈◌
@@ -35,22 +37,35 @@ module _ {N : Type 0} (ins : N → List N) where
     pub only : (a : N) → a ∈ xs → Reaches t a
     pub last : (ahead : List N) × (xs ≡ ahead ++ (t ∷ []))
 
--- ---- the wires in an array: three entries of w for each of 192 nodes; an entry below 192 is a node, any other is none
+-- ---- the wires in an array: a row of w for each of 192 nodes
 
-abbrev pub keep : Bool → ℕ → List ℕ → List ℕ
-keep true x l = x ∷ l
-keep false x l = l
+-- the node that a wire leads to
+abbrev pub target : Wire → Option ℕ
+target (To x) = cond (ltb x 192) (Some x) None
+target Absent = None
+target Gap = None
+target Past = None
 
-abbrev pub node : ℕ → List ℕ → List ℕ
-node x l = keep (ltb x 192) x l
+-- the wire to the node of a number; absent where there is none
+abbrev pub wire_to : ℕ → Wire
+wire_to x = cond (ltb x 192) (To x) Absent
 
--- the nodes in the places of node i
-unfoldable pub inputs_of : List ℕ → ℕ → List ℕ
-inputs_of w i = node (get_or w (i * 3) 0) (node (get_or w (i * 3 + 1) 0) (node (get_or w (i * 3 + 2) 0) []))
+abbrev pub add : Option ℕ → List ℕ → List ℕ
+add (Some x) l = x ∷ l
+add None l = l
+
+-- the nodes that wires lead to
+unfoldable pub targets : List Wire → List ℕ
+targets [] = []
+targets (e ∷ l) = add (target e) (targets l)
 
 -- what stands in the places of node i
-abbrev pub entries_of : List ℕ → ℕ → List ℕ
-entries_of w i = get_or w (i * 3) 0 ∷ get_or w (i * 3 + 1) 0 ∷ get_or w (i * 3 + 2) 0 ∷ []
+abbrev pub wires_of : List (List Wire) → ℕ → List Wire
+wires_of w i = get_or w i []
+
+-- the nodes in the places of node i
+unfoldable pub inputs_of : List (List Wire) → ℕ → List ℕ
+inputs_of w i = targets (wires_of w i)
 
 -- ---- lists of nodes
 
@@ -72,59 +87,74 @@ pub record Listed (at : List ℕ) (n : ℕ) (m : List Bool) : Type 0 where
   pub marked : Marks (take n at) m
 
 -- all inputs of node i stand in xs; or one does not
-abbrev pub Ready : List ℕ → List ℕ → ℕ → Type 0
+abbrev pub Ready : List (List Wire) → List ℕ → ℕ → Type 0
 Ready w xs i = (b : ℕ) → b ∈ inputs_of w i → b ∈ xs
 
-abbrev pub Waiting : List ℕ → List ℕ → ℕ → Type 0
+abbrev pub Waiting : List (List Wire) → List ℕ → ℕ → Type 0
 Waiting w xs i = (b : ℕ) × (b ∈ inputs_of w i) × (¬ (b ∈ xs))
 
 -- node i can be placed after xs: it is new, and ready; or it can't
-abbrev pub Next : List ℕ → List ℕ → ℕ → Type 0
+abbrev pub Next : List (List Wire) → List ℕ → ℕ → Type 0
 Next w xs i = (¬ (i ∈ xs)) × Ready w xs i
 
-abbrev pub NotNext : List ℕ → List ℕ → ℕ → Type 0
+abbrev pub NotNext : List (List Wire) → List ℕ → ℕ → Type 0
 NotNext w xs i = (i ∈ xs) ⊎ Waiting w xs i
 
--- xs after meeting x: x has joined if it is a node that is not there
-pub data Met (xs : List ℕ) (x : ℕ) : List ℕ → Type 0 where
-  stayed : (x < 192 → x ∈ xs) → Met xs x xs
-  joined : x < 192 → ¬ (x ∈ xs) → Met xs x (xs ++ (x ∷ []))
+-- xs after meeting a wire: the node that it leads to has joined, if it leads to one that is not there
+pub data Met (xs : List ℕ) (e : Wire) : List ℕ → Type 0 where
+  stayed : ((x : ℕ) → target e ≡ Some x → x ∈ xs) → Met xs e xs
+  joined : (x : ℕ) → target e ≡ Some x → ¬ (x ∈ xs) → Met xs e (xs ++ (x ∷ []))
+
+-- xs after meeting the wires es: the nodes that they lead to have joined at its end, each once
+pub record Grown (xs : List ℕ) (es : List Wire) (ys : List ℕ) : Type 0 where
+  pub nodes : AreDistinct xs → AreDistinct ys
+  pub more : List ℕ
+  pub is : ys ≡ xs ++ more
+  pub has : (e : Wire) → e ∈ es → (b : ℕ) → target e ≡ Some b → b ∈ ys
+  pub only : (a : ℕ) → a ∈ ys → (a ∈ xs) ⊎ ((e : Wire) × (e ∈ es) × (target e ≡ Some a))
 
 -- xs is the reach of t, each node once
-pub record IsReach (w : List ℕ) (t : ℕ) (xs : List ℕ) : Type 0 where
+pub record IsReach (w : List (List Wire)) (t : ℕ) (xs : List ℕ) : Type 0 where
   pub nodes : AreDistinct xs
   pub all : (a : ℕ) → Reaches (inputs_of w) t a → a ∈ xs
   pub only : (a : ℕ) → a ∈ xs → Reaches (inputs_of w) t a
 
 -- one of the line that can be placed next; none where no one can
-abbrev pub NextIn : List ℕ → List ℕ → List ℕ → Option ℕ → Type 0
+abbrev pub NextIn : List (List Wire) → List ℕ → List ℕ → Option ℕ → Type 0
 NextIn w line xs (Some x) = (x ∈ line) × Next w xs x
 NextIn w line xs None = (a : ℕ) → a ∈ line → NotNext w xs a
 
 -- the answer: an order of t; none where t closes a cycle
-abbrev pub Ordered : List ℕ → ℕ → Option (List ℕ) → Type 0
+abbrev pub Ordered : List (List Wire) → ℕ → Option (List ℕ) → Type 0
 Ordered w t (Some xs) = IsOrder (inputs_of w) t xs
 Ordered w t None = Circular (inputs_of w) t
 
--- an entry that is neither an absent tag nor a gap
-abbrev pub filled_of : ℕ → Bool
-filled_of x = cond (ltb x 64) true (ltb 193 x)
+-- a wire to a component, or past the end
+abbrev pub filled_of : Wire → Bool
+filled_of (To x) = ltb x 64
+filled_of Absent = false
+filled_of Gap = false
+filled_of Past = true
+
+unfoldable pub all_filled : List Wire → Bool
+all_filled [] = true
+all_filled (e ∷ l) = cond (filled_of e) (all_filled l) false
 
 -- node i is a component, and each of its places is filled
-abbrev pub whole_of : List ℕ → ℕ → Bool
-whole_of w i = cond (ltb i 64) (cond (filled_of (get_or w (i * 3) 0)) (cond (filled_of (get_or w (i * 3 + 1) 0)) (filled_of (get_or w (i * 3 + 2) 0)) false) false) false
+abbrev pub whole_of : List (List Wire) → ℕ → Bool
+whole_of w i = cond (ltb i 64) (all_filled (wires_of w i)) false
 
 -- a test that, where it holds, says so of each node
-abbrev pub Whole : List ℕ → List ℕ → Bool → Type 0
+abbrev pub Whole : List (List Wire) → List ℕ → Bool → Type 0
 Whole w xs b = b ≡ true → (x : ℕ) → x ∈ xs → whole_of w x ≡ true
 
 -- the reach of t, laid out: an order of it or a cycle, and a test of all of it
-pub record LaysOut (w : List ℕ) (t : ℕ) (reach : List ℕ) (order : Option (List ℕ)) (whole : Bool) : Type 0 where
+pub record LaysOut (w : List (List Wire)) (t : ℕ) (reach : List ℕ) (order : Option (List ℕ)) (whole : Bool) : Type 0 where
   pub reached : IsReach w t reach
   pub laid : Ordered w t order
   pub test : Whole w reach whole
 
 -- the first k entries
-pub record Copied (k : ℕ) (xs r : List ℕ) : Type 0 where
+pub record Copied {A : Type 0} (k : ℕ) (xs r : List A) : Type 0 where
   pub r_length : length r ≡ k
   pub same : take k r ≡ take k xs

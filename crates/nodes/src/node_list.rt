@@ -1,11 +1,14 @@
 // Distinct nodes in a row.
-ghost use Rattle.std.specs.Prelude.{◌≡◌, ◌<◌, true, false, [], ◌∷◌, ◌++◌};
-ghost use Rattle.nodes.specs.Nodes.{◌∈◌, AreDistinct, Met, Marks};
+ghost use Rattle.std.specs.Prelude.{ℕ, ◌≡◌, ◌<◌, true, false, Some, [], ◌∷◌, ◌++◌};
+ghost use Rattle.nodes.specs.Nodes.{◌∈◌, target, AreDistinct, Met, Grown, Marks};
 
+use crate::Wire;
 use std::marker::Model;
 
 // The nodes in the order in which they joined, and a mark for each that is among them.
-#[derive(Drop)]
+// Kept: memory is fixed, so the nodes stand in an array with their count beside it.
+// Kept: not `Copy`, which of a type that clauses see as its nodes asks a law `inverse (view l) ≡ l`: false, since the nodes do not tell what stands past the count.
+#[derive(Clone, Drop)]
 pub struct NodeList {
     at: [usize; 192],
     count: usize,
@@ -68,19 +71,33 @@ impl NodeList {
     }
 
     // A place is served: it has no node, or one that is there.
-    pub(crate) fn serves(&self, x: usize) -> bool
-        ensures yes { result ≡ true → x < 192 → x ∈ self.now }
-        ensures no { result ≡ false → (x < 192) × (¬ (x ∈ self.now)) }
+    pub(crate) fn serves(&self, wire: Wire) -> bool
+        ensures yes { result ≡ true → (x : ℕ) → target wire ≡ Some x → x ∈ self.now }
+        ensures no { result ≡ false → (x : ℕ) × (target wire ≡ Some x) × (¬ (x ∈ self.now)) }
     {
-        192 <= x || self.contains(x)
+        match wire.node() {
+            Some(x) => self.contains(x),
+            None => true,
+        }
     }
 
-    // x joins if it is a node that is not there.
-    pub(crate) fn meet(&mut self, x: usize)
-        ensures { Met self.old x self.new }
+    // The node that a wire leads to joins, if it is not there.
+    fn meet(&mut self, wire: Wire)
+        ensures { Met self.old wire self.new }
     {
-        if !self.serves(x) {
-            self.push(x);
+        if let Some(x) = wire.node() {
+            if !self.contains(x) {
+                self.push(x);
+            }
+        }
+    }
+
+    // The nodes that wires lead to join, where they are not there.
+    pub(crate) fn meet_all(&mut self, wires: &[Wire])
+        ensures { Grown self.old wires.now self.new }
+    {
+        for wire in wires {
+            self.meet(*wire);
         }
     }
 }

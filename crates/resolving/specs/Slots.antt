@@ -1,5 +1,5 @@
--- From the record to node numbers: what the helpers of compile promise of tags. Definitions only.
-use Rattle.std.specs.Prelude.{ℕ, zero, suc, ◌+◌, ◌*◌, ◌/◌, ◌%◌, ◌<◌, min, ◌≡◌, List, [], ◌∷◌, length, get_or, Option, Some, None}
+-- From the record to nodes and wires: what the helpers of compile promise of tags. Definitions only.
+use Rattle.std.specs.Prelude.{ℕ, zero, suc, ◌+◌, ◌*◌, ◌<◌, min, ◌≡◌, List, [], ◌∷◌, length, get_or, Option, Some, None}
 use Rattle.std.proofs.Math.Option.{none, some}
 use Rattle.tag.specs.Tags.{Tag}
 use Rattle.tag.specs.View.{bytes_of}
@@ -8,6 +8,9 @@ use Rattle.model.specs.declared.implicit_model.Model.{Model as Record}
 use Rattle.model.specs.Model.{Place}
 use Rattle.model.specs.View.{place_of, rows, components_of, lists_of}
 use Rattle.held.specs.Search.{position}
+use Rattle.nodes.specs.declared.Wire.{Wire}
+use Rattle.nodes.specs.declared.Wire.TheVariants.{Gap, Past as NoPlace}
+use Rattle.nodes.specs.Nodes.{target, wire_to}
 use Rattle.resolving.specs.declared.slots.Slot.{Slot}
 use Rattle.resolving.specs.declared.slots.Slot.TheVariants.{Named, Unassigned, Past}
 
@@ -27,16 +30,17 @@ abbrev pub NodeOf : Record → Tag → Option ℕ → Type 0
 NodeOf m a (Some x) = (x < 192) × (x ≡ node_of m a)
 NodeOf m a None = 192 ≡ node_of m a
 
--- ---- what stands in a list: a tag to look up, or a number
+-- ---- what stands in a list: a tag to look up, a gap, or nothing
 
 pub data Want : Type 0 where
   look : Tag → Want
-  fixed : ℕ → Want
+  unassigned : Want
+  no_place : Want
 
--- a place names a tag, is unassigned (193), or is past the end (194)
+-- a place names a tag, is unassigned, or is past the end
 unfoldable pub place_want : List Place → ℕ → Want
-place_want [] p = fixed 194
-place_want (none ∷ l) zero = fixed 193
+place_want [] p = no_place
+place_want (none ∷ l) zero = unassigned
 place_want (some a ∷ l) zero = look a
 place_want (q ∷ l) (suc p) = place_want l p
 
@@ -48,13 +52,14 @@ want_of l (suc p) = place_want (rows place_of l.count l.places) p
 -- what the code says of a slot
 abbrev pub slot_of : Slot → Want
 slot_of (Named t) = look (bytes_of t)
-slot_of Unassigned = fixed 193
-slot_of Past = fixed 194
+slot_of Unassigned = unassigned
+slot_of Past = no_place
 
--- the number that a slot comes to
-abbrev pub settled : Record → Want → ℕ
-settled m (look a) = node_of m a
-settled m (fixed k) = k
+-- the wire that a slot comes to
+abbrev pub settled : Record → Want → Wire
+settled m (look a) = wire_to (node_of m a)
+settled m unassigned = Gap
+settled m no_place = NoPlace
 
 -- ---- arrays
 
@@ -62,7 +67,15 @@ settled m (fixed k) = k
 abbrev pub slots : Record → ℕ
 slots m = min m.list_count 128 * 4
 
+-- the wires of a list's four slots
+pub record Settled (m : Record) (l : InputList) (row : List Wire) : Type 0 where
+  pub each : (q : ℕ) → q < 4 → get_or row q NoPlace ≡ settled m (want_of l q)
+
 -- `no` stands for what is read past a table's end, which nothing does
-pub record Resolved (no : InputList) (m : Record) (found : List ℕ) : Type 0 where
-  pub found-length : length found ≡ 512
-  pub each : (j : ℕ) → j < slots m → get_or found j 0 ≡ settled m (want_of (get_or m.lists (j / 4) no) (j % 4))
+pub record Resolved (no : InputList) (m : Record) (found : List (List Wire)) : Type 0 where
+  pub found-length : length found ≡ 128
+  pub each : (l : ℕ) → l < min m.list_count 128 → Settled m (get_or m.lists l no) (get_or found l [])
+
+-- the node of the tag of a list, by its wires
+abbrev pub owner_of : List (List Wire) → ℕ → Option ℕ
+owner_of found l = target (get_or (get_or found l []) 0 NoPlace)

@@ -3,10 +3,11 @@ ghost use Rattle.std.specs.Prelude.{◌≡◌, true};
 ghost use Rattle.tag.specs.View.{bytes_of};
 ghost use Rattle.model.specs.View.{passes};
 ghost use Rattle.held.proofs.Laws.Rows.{no_list};
-ghost use Rattle.resolving.specs.Slots.{NodeOf, want_of, slot_of, settled, Resolved};
+ghost use Rattle.resolving.specs.Slots.{NodeOf, want_of, slot_of, settled, Settled, Resolved};
 
 use held::find::{find_component, find_list};
 use model::implicit_model::{InputList, Model};
+use nodes::Wire;
 use tag::Tag;
 
 // The node of a tag, where it has one. It searches the tables; `target_node` asks it only where a guess fails.
@@ -76,25 +77,35 @@ pub fn target_node(m: &Model, keys: &[u64; 64], t: Tag) -> Option<usize>
     node_of(m, t)
 }
 
-// The number of a slot: its tag's node, or 192 where that has none; 193 where it is unassigned, and 194 past the end.
-fn slot_number(m: &Model, keys: &[u64; 64], s: Slot) -> usize
+// The wire of a slot: to its tag's node, or Absent where the tag has none; Gap or Past where no tag stands.
+fn slot_wire(m: &Model, keys: &[u64; 64], s: Slot) -> Wire
     ensures { passes m.now ≡ true → result ≡ settled m.now (slot_of s) }
 {
     match s {
-        Slot::Named(t) => target_node(m, keys, t).unwrap_or(192),
-        Slot::Unassigned => 193,
-        Slot::Past => 194,
+        Slot::Named(t) => target_node(m, keys, t).map_or(Wire::Absent, Wire::leading_to),
+        Slot::Unassigned => Wire::Gap,
+        Slot::Past => Wire::Past,
     }
 }
 
-// The numbers of all slots of the lists, four to a list.
-pub fn resolve(m: &Model, keys: &[u64; 64]) -> [usize; 512]
+// The wires of a list's four slots.
+fn list_wires(m: &Model, keys: &[u64; 64], l: &InputList) -> [Wire; 4]
+    ensures { passes m.now ≡ true → Settled m.now l.now result }
+{
+    let own = slot_wire(m, keys, slot_at(l, 0));
+    let first = slot_wire(m, keys, slot_at(l, 1));
+    let second = slot_wire(m, keys, slot_at(l, 2));
+    let third = slot_wire(m, keys, slot_at(l, 3));
+    [own, first, second, third]
+}
+
+// The wires of all slots of the lists.
+pub fn resolve(m: &Model, keys: &[u64; 64]) -> [[Wire; 4]; 128]
     ensures { passes m.now ≡ true → Resolved no_list m.now result }
 {
-    let mut found = [194; 512];
-    for j in 0..m.live_lists().len() * 4 {
-        let slot = slot_at(&m.lists[j / 4], j % 4);
-        found[j] = slot_number(m, keys, slot);
+    let mut found = [[Wire::Past; 4]; 128];
+    for l in 0..m.live_lists().len() {
+        found[l] = list_wires(m, keys, &m.lists[l]);
     }
     found
 }

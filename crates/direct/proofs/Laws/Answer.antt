@@ -13,10 +13,9 @@ use Rattle.standing.specs.declared.Wire.{Wire}
 use Rattle.standing.specs.Standing.{Names, Stands}
 use Rattle.direct.specs.Evaluate.{EvaluatesIn}
 
-pub answered : {s : List ℕ} {n : ℕ} {w : List (List Wire)} {t : Tag} {r : ℕ} {x y z v : Float} {b : ℕ} (g : Stands s n w) → Names s n t r
-    → Number g.model (record { x = x; y = y; z = z }) (tag_of s r) v → b ≡ to_bits binary64 v → EvaluatesIn s t x y z b
-answered {t = t} {x = x} {y = y} {z = z} {v = v} g q k e =
-    let p : Vec3 = record { x = x; y = y; z = z } in
+pub answered : {s : List ℕ} {n : ℕ} {w : List (List Wire)} {t : Tag} {r : ℕ} {p : Vec3} {v : Float} {b : ℕ} (g : Stands s n w) → Names s n t r
+    → Number g.model p (tag_of s r) v → b ≡ to_bits binary64 v → EvaluatesIn s t p b
+answered {t = t} {p = p} {v = v} g q k e =
     let m : Number g.model p t v = subst (λ (u : Tag). Number g.model p u v) q.tag k in
     record {
       model = g.model;

@@ -1,5 +1,5 @@
 -- The numbers along an order, and what evaluate_at answers. Assumes nothing.
-use Prim.Native.Nat.{ℕ, zero, suc, ◌+◌, ◌-◌, ◌*◌, ◌≤◌, ◌<◌}
+use Prim.Native.Nat.{ℕ, zero, suc, ◌+◌, ◌-◌, ◌≤◌, ◌<◌}
 use native.Mathlib.Numerals.{add-one}
 use native.Mathlib.Omega.{arith}
 use native.Mathlib.Decide.{dec_lt}
@@ -10,7 +10,7 @@ use mathlib.Core.List.Memᴰ
 use mathlib.Core.List.{List, [], ◌∷◌, ◌++◌, map, Memᴰ}
 use mathlib.Core.Option.{none, some}
 use lib.Dec.{T}
-use lib.Ieee.{Float, nan, binary64, to_bits}
+use lib.Ieee.{Float, nan, binary64, to_bits, of_bits, of_fields, odd}
 use lib.ListN.{length, get_or, take, drop, set, length-set, length-take, length-map, length-append, get_or-map}
 use lib.Seq.{take-suc, split_at, take-take, get_or-take, length-take-le, get_or-set_same, get_or-set_other}
 use borrow.Author.Tests.{lt-ltb}
@@ -29,7 +29,8 @@ use Rattle.held.specs.Search.{position}
 use Rattle.held.proofs.Laws.Rows.{no_entry, rows-length}
 use Rattle.held.proofs.Laws.Standing.{Standing, standing}
 use Rattle.graph.specs.declared.computation_graph.Graph.{Graph}
-use Rattle.nodes.specs.Nodes.{◌∈◌}
+use Rattle.nodes.specs.declared.Wire.TheVariants.{To, Absent, Past}
+use Rattle.nodes.specs.Nodes.{◌∈◌, wire_to}
 use Rattle.resolving.specs.Slots.{look, place_want, node_of, settled}
 use Rattle.graph.specs.Compile.{tag_at, OrdersAs, RefusesAs}
 use Rattle.evaluating.specs.Evaluate.{input_of, EvaluatesAs}
@@ -39,6 +40,11 @@ use Rattle.resolving.proofs.Laws.Node.{position_at, node_hit, entry_row}
 use Rattle.resolving.proofs.Laws.Places.{want_names, want_past}
 use Rattle.graph.proofs.Laws.Names.{map_mem, map_mem_inv}
 use Rattle.resolving.proofs.Laws.Slots.{inputs_short}
+
+-- the code's NaN
+pub nan_is : of_bits binary64 9221120237041090560 ≡ nan
+unfolding of_bits of_fields odd
+nan_is = refl
 
 -- ---- an order cut in front of one of its tags
 
@@ -150,9 +156,9 @@ module _ (m : Record) (g : Graph) (t : Tag) (says : OrdersAs m t g) where
     places = inputs (view m) (tag_at m x)
 
     abbrev read : ℕ → Float
-    read q = input_of vals (get_or g.inputs (x * 3 + q) 0)
+    read q = input_of vals (get_or (get_or g.inputs x []) q Past)
 
-    entry : (q : ℕ) → q < 3 → get_or g.inputs (x * 3 + q) 0 ≡ settled m (place_want places q)
+    entry : (q : ℕ) → q < 3 → get_or (get_or g.inputs x []) q Past ≡ settled m (place_want places q)
     entry q hq = says.wired x q x_in hq
 
     -- a place's number is what was worked out for its tag
@@ -161,15 +167,12 @@ module _ (m : Record) (g : Graph) (t : Tag) (says : OrdersAs m t g) where
         let (y, i, f) = map_mem_inv (tag_at m) (take k g.order) (cut.1 b (want_names places q e)) in
         let lt : y < 64 = omega (arith, held y (earlier y i), rows-length component_of m.components m.component_count, fit.few) in
         let s : y ≡ node_of m b = node_hit m b y (subst (λ (a : Tag). position a 0 (components_of m) ≡ Some y) f (seated y (earlier y i))) in
-        let r : get_or g.inputs (x * 3 + q) 0 ≡ y = entry q hq ∙ ap (settled m) e ∙ sym s in
+        let r : get_or (get_or g.inputs x []) q Past ≡ To y = entry q hq ∙ ap (settled m) e ∙ ap wire_to (sym s) ∙ ap (λ (c : Bool). cond c (To y) Absent) (lt-ltb y 192 (omega (arith, lt))) in
         let v : read q ≡ get_or vals y nan = ap (input_of vals) r ∙ ap (λ (c : Bool). cond c (get_or vals y nan) nan) (lt-ltb y 64 lt) in
         subst (λ (z : Float). Number (view m) p b z) (sym v) (subst (λ (a : Tag). Number (view m) p a (get_or vals y nan)) f (w.right y i))
 
     three : (f : Float → Float → Float → Float) {a b c a' b' c' : Float} → a ≡ a' → b ≡ b' → c ≡ c' → f a b c ≡ f a' b' c'
     three f p q r = cc
-
-    first : input_of vals (get_or g.inputs (x * 3) 0) ≡ read 0
-    first = let z : x * 3 ≡ x * 3 + 0 = omega arith in ap (λ (i : ℕ). input_of vals (get_or g.inputs i 0)) z
 
     pub next-number : (v : Float) → v ≡ compute (get_or m.components x no_entry).component p (read 0) (read 1) (read 2) → Number (view m) p (tag_at m x) v
     unfolding value
@@ -188,10 +191,10 @@ module _ (m : Record) (g : Graph) (t : Tag) (says : OrdersAs m t g) where
             by : Dec (q < length places) → get_or xs q nan ≡ read q
             by (yes lt) = same q lt
             by (no nlt) =
-                let r : get_or g.inputs (x * 3 + q) 0 ≡ 194 = entry q hq ∙ ap (settled m) (want_past places q (omega arith)) in
+                let r : get_or (get_or g.inputs x []) q Past ≡ Past = entry q hq ∙ ap (settled m) (want_past places q (omega arith)) in
                 past q (omega arith) ∙ sym (ap (input_of vals) r)
 
-    pub worked-more : (a b c v : Float) → a ≡ input_of vals (get_or g.inputs (x * 3) 0) → b ≡ read 1 → c ≡ read 2 → v ≡ compute (get_or m.components x no_entry).component p a b c → Worked m g.order p (set vals x v) (k + 1)
+    pub worked-more : (a b c v : Float) → a ≡ read 0 → b ≡ read 1 → c ≡ read 2 → v ≡ compute (get_or m.components x no_entry).component p a b c → Worked m g.order p (set vals x v) (k + 1)
     worked-more a b c v ea eb ec e = record {
       vals_length = length-set vals x v ∙ w.vals_length;
       right = λ i j. ⊎_elim (old i) (new i) (Memᴰ.append_cases (take k g.order) (subst (λ (l : List ℕ). i ∈ l) (rw add-one (take-suc g.order k 0 (omega (arith, room)))) j));
@@ -203,7 +206,7 @@ module _ (m : Record) (g : Graph) (t : Tag) (says : OrdersAs m t g) where
         new : (i : ℕ) → i ∈ (x ∷ []) → Number (view m) p (tag_at m i) (get_or (set vals x v) i nan)
         new i j =
             let q : i ≡ x = Memᴰ.eq_of_singleton j in
-            subst (λ (z : ℕ). Number (view m) p (tag_at m z) (get_or (set vals x v) z nan)) (sym q) (subst (Number (view m) p (tag_at m x)) (sym (get_or-set_same vals x v nan (omega (arith, w.vals_length, small k h)))) (next-number v (e ∙ three (compute (get_or m.components x no_entry).component p) (ea ∙ first) eb ec)))
+            subst (λ (z : ℕ). Number (view m) p (tag_at m z) (get_or (set vals x v) z nan)) (sym q) (subst (Number (view m) p (tag_at m x)) (sym (get_or-set_same vals x v nan (omega (arith, w.vals_length, small k h)))) (next-number v (e ∙ three (compute (get_or m.components x no_entry).component p) ea eb ec)))
 
   tags-length : length (map (tag_at m) (take n g.order)) ≡ n
   tags-length = length-map (take n g.order) (tag_at m) ∙ length-take-le n g.order room

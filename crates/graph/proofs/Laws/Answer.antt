@@ -17,6 +17,7 @@ use Rattle.std.specs.Prelude.{Option as Maybe, Some, None, Result, Ok, Err, IsEr
 use Rattle.tag.specs.Tags.{Tag, before, overlong, empty}
 use Rattle.tag.specs.View.{bytes_of}
 use Rattle.tag.proofs.Laws.Order.{before_irrefl}
+use Rattle.model.specs.declared.implicit_model.InputList.{InputList}
 use Rattle.model.specs.declared.implicit_model.Model.{Model as Record}
 use Rattle.model.specs.declared.model_error.Refusal.{Refusal}
 use Rattle.model.specs.Answer.{refusal_of}
@@ -31,18 +32,19 @@ use Rattle.held.proofs.Laws.Rows.{no_entry, no_list, rows_at}
 use Rattle.held.proofs.Laws.Standing.{Standing, standing, passes-valid}
 use Rattle.lacking.specs.declared.least.Shown.{Shown}
 use Rattle.graph.specs.declared.computation_graph.Graph.{Graph}
-use Rattle.nodes.specs.declared.LaidOut.{LaidOut}
-use Rattle.nodes.specs.Nodes.{LaysOut, ◌∈◌, Circular, IsOrder, inputs_of, IsReach, Marks, filled_of, whole_of}
-use Rattle.resolving.specs.Slots.{look, place_want, want_of, node_of, settled, slots, Resolved}
+use Rattle.nodes.specs.declared.Wire.{Wire as Edge}
+use Rattle.nodes.specs.declared.Wire.TheVariants.{Past}
+use Rattle.nodes.specs.Nodes.{LaysOut, Ordered, ◌∈◌, Circular, IsOrder, inputs_of, IsReach, Marks, wires_of, filled_of, all_filled, whole_of}
+use Rattle.resolving.specs.Slots.{look, place_want, want_of, node_of, NodeOf, settled, slots, Resolved, owner_of}
 use Rattle.graph.specs.Wiring.{Wired}
-use Rattle.lacking.specs.Least.{LeastIs, LeastOf, AbsentShown, GapShown}
+use Rattle.lacking.specs.Least.{marked_at, LeastIs, LeastOf, AbsentShown, GapShown}
 use Rattle.graph.specs.Compile.{tag_at, positions_of, CompilesAs, Filled, Placing, Formed}
 use Rattle.nodes.proofs.Laws.Order.{laid-length, order-acyclic}
-use Rattle.nodes.proofs.Laws.Wires.{up_to, length_up_to, mem_up_to}
-use Rattle.resolving.proofs.Laws.Node.{node-within, name_of, Seat, component_at, list_at, nowhere, seat, name-node, node-none, node-component, absent-node, node-absent, listed-node, list_row, entry_row, unlisted}
+use Rattle.nodes.proofs.Laws.Wires.{up_to, length_up_to, mem_up_to, to_none, each_filled}
+use Rattle.resolving.proofs.Laws.Node.{name_of, Seat, component_at, list_at, nowhere, seat, name-node, node-none, node-component, absent-node, node-absent, listed-node, list_row, entry_row, unlisted}
 use Rattle.resolving.proofs.Laws.Places.{want_names, names_want, gap_want}
-use Rattle.graph.proofs.Laws.Names.{Drawn, node-of, wired-node, reach_down, reach_up, cyclic_down, cyclic_up, order_up}
-use Rattle.resolving.proofs.Laws.Slots.{owner, listed_at, inputs_short, inputs_at, tag_of}
+use Rattle.graph.proofs.Laws.Names.{settled_row, settled_at, in_settled, Drawn, node-of, wired-node, reach_down, reach_up, cyclic_down, cyclic_up, order_up}
+use Rattle.resolving.proofs.Laws.Slots.{owned_by, listed_at, inputs_short, inputs_at, tag_of, in_table}
 use Rattle.graph.proofs.Laws.Drawing.{drawn}
 use Rattle.lacking.proofs.Laws.Least.{gap_there, there_gap}
 
@@ -78,10 +80,6 @@ module _ (m : Record) (t : Tag) where
       ending (made u) = ordered
 
   -- handed on by `?`
-  pub unfit : (a : Result Graph Refusal) (r : Refusal) → IsErrAnd a (λ x. x ≡ r) → passes m ≡ false → refusal_of r ≡ refused 7 empty 0 → CompilesAs m t a
-  unfit (Ok g) r h f e = absurd h
-  unfit (Err x) r h f e = record { fitting = λ q. absurd (true≢false (sym q ∙ f)); unfit = λ q. ap refusal_of h ∙ e }
-
   pub too_long : (a : Result Graph Refusal) → IsErrAnd a (λ x. refusal_of x ≡ refused 1 empty 0) → passes m ≡ true → overlong t ≡ true → CompilesAs m t a
   too_long (Ok g) h p e = absurd h
   too_long (Err x) h p e = stops p (long (passes-valid m p) (true→T (overlong t) e)) x h
@@ -109,7 +107,7 @@ module _ (m : Record) (pass : passes m ≡ true) (t : Tag) (size : overlong t �
         (λ c. Memᴰ.not-nil (subst (λ (l : List Place). Memᴰ (some c.next) l) (node-none m fit t nowhere-at) (subst (λ (z : Tag). Wire (view m) z c.next) (alone c.tag c.reached) c.wire)))
         ((here, node-absent m fit t (omega arith)), λ b h a. true≢false (sym (T→true _ (subst (λ (z : Tag). T (before z t)) (alone b a.0) h)) ∙ before_irrefl t))
 
-  module _ (longs : min m.list_count (length m.lists) ≡ min m.list_count 128) (found : List ℕ) (r : Resolved no_list m found) (n : ℕ) (live : n ≡ min m.list_count 128) (w : List ℕ) (g : Wired found n w) (small : node_of m t < 192) where
+  module _ (longs : min m.list_count (length m.lists) ≡ min m.list_count 128) (found : List (List Edge)) (r : Resolved no_list m found) (n : ℕ) (live : n ≡ min m.list_count 128) (w : List (List Edge)) (g : Wired found n w) (small : node_of m t < 192) where
     d : Drawn m w
     d = drawn m pass longs found r n live w g
 
@@ -126,24 +124,24 @@ module _ (m : Record) (pass : passes m ≡ true) (t : Tag) (size : overlong t �
       unmark a h e = subst (Reach (view m) t) (name-node m fit a h) (reach_down d t small (node_of m a) (reach.only (node_of m a) ((marks.marks (node_of m a) h).0 e))).1
 
       -- a marked list's tag is reached, and a reached tag's list is marked
-      list-reached : (l : ℕ) → l < min m.list_count 128 → get_or seen (get_or found (l * 4) 0) false ≡ true → Reach (view m) t (tag_of m pass longs found r l)
+      list-reached : (l : ℕ) → l < min m.list_count 128 → marked_at seen (owner_of found l) ≡ true → Reach (view m) t (tag_of m pass longs found r l)
       list-reached l h e =
           let a = tag_of m pass longs found r l in
-          unmark a (listed-node m fit a l (listed_at m pass longs found r l h)) (subst (λ (z : ℕ). get_or seen z false ≡ true) (owner m pass longs found r l h) e)
+          unmark a (listed-node m fit a l (listed_at m pass longs found r l h)) (subst (λ (z : Maybe ℕ). marked_at seen z ≡ true) (owned_by m pass longs found r l h) e)
 
       record Kept (a : Tag) : Type 0 where
         pub at : ℕ
         pub within : at < min m.list_count 128
         pub stands : position a 0 (lists_of m) ≡ Some at
         pub tag : tag_of m pass longs found r at ≡ a
-        pub marked : get_or seen (get_or found (at * 4) 0) false ≡ true
+        pub marked : marked_at seen (owner_of found at) ≡ true
 
       kept_at : (a : Tag) → Reach (view m) t a → (l : ℕ) → position a 0 (lists_of m) ≡ Some l → Kept a
       kept_at a q l e =
           let row = list_row m a l e in
           let h : l < min m.list_count 128 = omega (arith, row.below, fit.few_lists) in
-          let o : get_or found (l * 4) 0 ≡ node_of m a = owner m pass longs found r l h ∙ ap (node_of m) row.tag in
-          record { at = l; within = h; stands = e; tag = row.tag; marked = ap (λ (z : ℕ). get_or seen z false) o ∙ mark a q (listed-node m fit a l e) }
+          let o : owner_of found l ≡ Some (node_of m a) = owned_by m pass longs found r l h ∙ ap Some (ap (node_of m) row.tag) in
+          record { at = l; within = h; stands = e; tag = row.tag; marked = ap (marked_at seen) o ∙ mark a q (listed-node m fit a l e) }
 
       kept : (a : Tag) → Reach (view m) t a → (p : Place) → Memᴰ p (inputs (view m) a) → Kept a
       kept a q p k = go (position a 0 (lists_of m)) refl
@@ -176,7 +174,7 @@ module _ (m : Record) (pass : passes m ≡ true) (t : Tag) (size : overlong t �
       show a b k q hq e h = record {
         slot = k.at * 4 + q;
         below = omega (arith, k.within);
-        marked = subst (λ (z : ℕ). get_or seen (get_or found (z * 4) 0) false ≡ true) (sym y) k.marked;
+        marked = subst (λ (z : ℕ). marked_at seen (owner_of found z) ≡ true) (sym y) k.marked;
         names = ap₂ (λ (u v : ℕ). want_of (get_or m.lists u no_list) v) y z ∙ e;
         absent = h;
         index = refl;
@@ -220,30 +218,19 @@ module _ (m : Record) (pass : passes m ≡ true) (t : Tag) (size : overlong t �
       -- ---- where every reached node is whole, nothing is absent and nothing is gapped
 
       module _ (whole : (x : ℕ) → x ∈ line → whole_of w x ≡ true) where
-        parts : (x : ℕ) → x ∈ line → (x < 64) × ((p : ℕ) → p < 3 → filled_of (get_or w (x * 3 + p) 0) ≡ true)
+        parts : (x : ℕ) → x ∈ line → (x < 64) × ((e : Edge) → e ∈ wires_of w x → filled_of e ≡ true)
         parts x k = go (ltb x 64) refl (whole x k)
           where
-            three : (a b c : Bool) → cond a (cond b c false) false ≡ true → (a ≡ true) × (b ≡ true) × (c ≡ true)
-            three true true c e = (refl, refl, e)
-            three true false c e = absurd (false≢true e)
-            three false b c e = absurd (false≢true e)
-
-            go : (b : Bool) → ltb x 64 ≡ b → cond b (cond (filled_of (get_or w (x * 3) 0)) (cond (filled_of (get_or w (x * 3 + 1) 0)) (filled_of (get_or w (x * 3 + 2) 0)) false) false) false ≡ true
-                → (x < 64) × ((p : ℕ) → p < 3 → filled_of (get_or w (x * 3 + p) 0) ≡ true)
+            go : (b : Bool) → ltb x 64 ≡ b → cond b (all_filled (wires_of w x)) false ≡ true → (x < 64) × ((e : Edge) → e ∈ wires_of w x → filled_of e ≡ true)
             go false e f = absurd (false≢true f)
-            go true e f = (ltb-true x 64 e, at)
-              where
-                at : (p : ℕ) → p < 3 → filled_of (get_or w (x * 3 + p) 0) ≡ true
-                at zero h = let z : x * 3 + 0 ≡ x * 3 = omega arith in ap (λ (y : ℕ). filled_of (get_or w y 0)) z ∙ (three (filled_of (get_or w (x * 3) 0)) (filled_of (get_or w (x * 3 + 1) 0)) (filled_of (get_or w (x * 3 + 2) 0)) f).0
-                at (suc zero) h = (three (filled_of (get_or w (x * 3) 0)) (filled_of (get_or w (x * 3 + 1) 0)) (filled_of (get_or w (x * 3 + 2) 0)) f).1
-                at (suc (suc zero)) h = (three (filled_of (get_or w (x * 3) 0)) (filled_of (get_or w (x * 3 + 1) 0)) (filled_of (get_or w (x * 3 + 2) 0)) f).2
-                at (suc (suc (suc p))) h = absurd (let z : ⊥ = omega arith in z)
+            go true e f = (ltb-true x 64 e, each_filled (wires_of w x) f)
 
         -- the node of a reached tag that has one
         in_line : (a : Tag) → Reach (view m) t a → node_of m a < 192 → (node_of m a < 64) × ((p : ℕ) → p < 3 → filled_of (settled m (place_want (inputs (view m) a) p)) ≡ true)
         in_line a q h =
             let (s, f) = parts (node_of m a) (reach.all (node_of m a) (reach_up d t small a q h)) in
-            (s, λ p hp. sym (ap filled_of (d.wires (node_of m a) (node-of d a h) p hp ∙ ap (λ (z : Tag). settled m (place_want (inputs (view m) z) p)) (name-node m fit a h))) ∙ f p hp)
+            let row : wires_of w (node_of m a) ≡ settled_row m (inputs (view m) a) = d.wires (node_of m a) (node-of d a h) ∙ ap (λ (z : Tag). settled_row m (inputs (view m) z)) (name-node m fit a h) in
+            (s, λ p hp. f (settled m (place_want (inputs (view m) a) p)) (subst (λ (l : List Edge). settled m (place_want (inputs (view m) a) p) ∈ l) (sym row) (in_settled m (inputs (view m) a) p hp)))
 
         pub whole_present : (a : Tag) → ¬ Absent (view m) t a
         whole_present a (q, n) = go q (absent-node m fit a n)
@@ -257,8 +244,7 @@ module _ (m : Record) (pass : passes m ≡ true) (t : Tag) (size : overlong t �
                 by (no nlt) =
                     let (p, lt, e) = names_want (inputs (view m) c) k in
                     let f = (in_line c r (wired-node d c b k)).1 p (omega (arith, inputs_short m pass c)) in
-                    let z : node_of m b ≡ 192 = omega (arith, node-within m fit b) in
-                    false≢true (sym (ap filled_of (ap (settled m) e ∙ z)) ∙ f)
+                    false≢true (sym (ap filled_of (ap (settled m) e ∙ to_none (node_of m b) (omega arith))) ∙ f)
 
         pub whole_assigned : (a : Tag) → ¬ Gapped (view m) t a
         whole_assigned a (q, n) =
@@ -330,8 +316,8 @@ module _ (m : Record) (pass : passes m ≡ true) (t : Tag) (size : overlong t �
           same : positions_of graph ≡ xs
           same = ap (λ (z : ℕ). take z graph.order) made.count ∙ made.order.same ∙ take_all 64 xs few
 
-          entry : (x p : ℕ) → x < 64 → p < 3 → get_or graph.inputs (x * 3 + p) 0 ≡ get_or w (x * 3 + p) 0
-          entry x p h hp = sym (get_or-take 192 graph.inputs (x * 3 + p) 0 (omega arith)) ∙ ap (λ (l : List ℕ). get_or l (x * 3 + p) 0) made.inputs.same ∙ get_or-take 192 w (x * 3 + p) 0 (omega arith)
+          entry : (x : ℕ) → x < 64 → get_or graph.inputs x [] ≡ wires_of w x
+          entry x h = sym (get_or-take 64 graph.inputs x [] h) ∙ ap (λ (l : List (List Edge)). get_or l x []) made.inputs.same ∙ get_or-take 64 w x [] h
 
           pub says-ordered : CompilesAs m t (Ok graph)
           says-ordered = record {
@@ -341,27 +327,45 @@ module _ (m : Record) (pass : passes m ≡ true) (t : Tag) (size : overlong t �
             few = omega (arith, made.count, few);
             held = λ x i. entry-held x (subst (λ (l : List ℕ). x ∈ l) same i);
             wired = λ x p i hp. let j : x ∈ xs = subst (λ (l : List ℕ). x ∈ l) same i in
-                entry x p (in_order x j).0 hp ∙ d.wires x (reach_down d t small x (o.only x j)).0 p hp ∙ ap (λ (z : Tag). settled m (place_want (inputs (view m) z) p)) (sym (entry_tag x j));
+                ap (λ (l : List Edge). get_or l p Past) (entry x (in_order x j).0 ∙ d.wires x (reach_down d t small x (o.only x j)).0) ∙ settled_at m (inputs (view m) (name_of m x)) p hp ∙ ap (λ (z : Tag). settled m (place_want (inputs (view m) z) p)) (sym (entry_tag x j));
           }
 
--- ---- the same of a form
+-- ---- a target with a node, its slots resolved, its wires drawn and its reach laid out
 
-module _ (m : Record) (pass : passes m ≡ true) (t : Tag) (size : overlong t ≡ false) (found : List ℕ) (r : Resolved no_list m found) {n : ℕ} (live : n ≡ min m.list_count 128) (w : List ℕ) (g : Wired found n w) where
-  pub form_of : min m.list_count (length m.lists) ≡ min m.list_count 128 → {x : ℕ} → x ≡ node_of m t → x < 192 → (l : LaidOut) (xs nodes : List ℕ) → l.order ≡ Some xs → nodes ≡ xs → (x < 192 → LaysOut w x l.reach l.order l.whole) → {seen : List Bool} → Marks l.reach seen
-      → Formed no_list m t found w nodes l.whole seen
-  form_of longs {x} e h l xs nodes f q laid marked = record {
+module _ (m : Record) (t : Tag) (pass : passes m ≡ true) (size : overlong t ≡ false) {found : List (List Edge)} (r : Resolved no_list m found)
+    {live : List InputList} (is_live : live ≡ take m.list_count m.lists) (bound : length live ≡ min m.list_count 128) {w : List (List Edge)} (g : Wired found (length live) w)
+    {o : Maybe ℕ} {x : ℕ} (at : o ≡ Some x) (node : NodeOf m t o) {reach : List ℕ} {order : Maybe (List ℕ)} {whole : Bool} (laid : x < 192 → LaysOut w x reach order whole) where
+  longs : min m.list_count (length m.lists) ≡ min m.list_count 128
+  longs = in_table m.lists m.list_count is_live bound
+
+  its_node : NodeOf m t (Some x)
+  its_node = subst (NodeOf m t) at node
+
+  small-node : node_of m t < 192
+  small-node = subst (λ (z : ℕ). z < 192) its_node.1 its_node.0
+
+  laid_out : LaysOut w (node_of m t) reach order whole
+  laid_out = subst (λ (z : ℕ). LaysOut w z reach order whole) its_node.1 (laid its_node.0)
+
+  pub cyclic_of : order ≡ None → Refuses (view m) t 14 t 0
+  cyclic_of e = says-cyclic m pass t size longs found r (length live) bound w g small-node (subst (Ordered w (node_of m t)) e laid_out.laid)
+
+  pub form_of : {xs nodes : List ℕ} {seen : List Bool} → order ≡ Some xs → nodes ≡ xs → Marks reach seen → Formed no_list m t found w nodes whole seen
+  form_of e q marked = record {
     fits = pass;
     short = size;
     live = longs;
-    node = subst (λ (z : ℕ). z < 192) e h;
+    node = small-node;
     resolved = r;
-    wires = subst (λ (z : ℕ). Wired found z w) live g;
-    reach = l.reach;
-    laid = subst (λ (z : ℕ). LaysOut w z l.reach (Some nodes) l.whole) e (subst (λ o. LaysOut w x l.reach o l.whole) (f ∙ ap (λ (k : List ℕ). Some k) (sym q)) (laid h));
+    wires = subst (λ (z : ℕ). Wired found z w) bound g;
+    reach = reach;
+    laid = subst (λ (z : Maybe (List ℕ)). LaysOut w (node_of m t) reach z whole) (e ∙ ap (λ (k : List ℕ). Some k) (sym q)) laid_out;
     marked = marked;
   }
 
-module _ (m : Record) (t : Tag) (found w xs : List ℕ) (whole : Bool) (seen : List Bool) (f : Formed no_list m t found w xs whole seen) where
+-- ---- the same of a form
+
+module _ (m : Record) (t : Tag) (found w : List (List Edge)) (xs : List ℕ) (whole : Bool) (seen : List Bool) (f : Formed no_list m t found w xs whole seen) where
   placing : ((a : Tag) → ¬ Absent (view m) t a) → ((a : Tag) → ¬ Gapped (view m) t a) → (g : Graph) → Placing xs w g → CompilesAs m t (Ok g)
   placing present assigned = says-ordered m f.fits t f.short f.live found f.resolved (min m.list_count 128) refl w f.wires f.node f.reach seen f.laid.reached f.marked xs f.laid.laid present assigned
 

@@ -1,5 +1,5 @@
 -- What nodes show of the tags that they stand for: reach, cycles and orders. A tag without a node has no list. Assumes nothing.
-use Prim.Native.Nat.{ℕ, zero, suc, ◌+◌, ◌*◌, ◌≤◌, ◌<◌}
+use Prim.Native.Nat.{ℕ, zero, suc, ◌≤◌, ◌<◌}
 use native.Mathlib.Omega.{arith}
 use native.Mathlib.Decide.{dec_lt}
 use mathlib.Core.Path.{◌≡◌, refl, sym, ap, subst, ◌∙◌}
@@ -15,12 +15,15 @@ use Rattle.model.specs.Form.{Wire, Reach, here, along, Cyclic, Placed, start, th
 use Rattle.model.specs.View.{view}
 use Rattle.model.proofs.Laws.Reach.{reach_on}
 use Rattle.held.proofs.Laws.Standing.{Standing}
-use Rattle.nodes.specs.Nodes.{◌∈◌, Reaches, itself, wired, Circular, IsOrder, inputs_of}
-use Rattle.resolving.specs.Slots.{Want, look, fixed, place_want, node_of, settled}
+use Rattle.std.specs.Prelude.{Some}
+use Rattle.nodes.specs.declared.Wire.{Wire as Edge}
+use Rattle.nodes.specs.declared.Wire.TheVariants.{Past}
+use Rattle.nodes.specs.Nodes.{◌∈◌, Reaches, itself, wired, Circular, IsOrder, target, wire_to, wires_of, inputs_of}
+use Rattle.resolving.specs.Slots.{Want, look, unassigned, no_place, place_want, node_of, settled}
 use Rattle.nodes.proofs.Laws.Order.{by_placing}
-use Rattle.nodes.proofs.Laws.Wires.{entry_cases, entry_0, entry_1, entry_2}
+use Rattle.nodes.proofs.Laws.Wires.{none_some, target_small, target_to, target_of, input_wire, wire_input, place_of, member_at}
 use Rattle.resolving.proofs.Laws.Node.{name_of, name-node, node-none}
-use Rattle.resolving.proofs.Laws.Places.{want_names, names_want, want_fixed}
+use Rattle.resolving.proofs.Laws.Places.{want_names, names_want}
 
 -- ---- a mapped list
 
@@ -42,55 +45,68 @@ map_snoc f (x ∷ xs) t = ap (λ (l : List _). f x ∷ l) (map_snoc f xs t)
 abbrev pub Node : Record → ℕ → Type 0
 Node m x = (x < 192) × (node_of m (name_of m x) ≡ x)
 
+-- what the three places of a list come to
+abbrev pub settled_row : Record → List Place → List Edge
+settled_row m l = settled m (place_want l 0) ∷ settled m (place_want l 1) ∷ settled m (place_want l 2) ∷ []
+
+module _ (m : Record) (l : List Place) where
+  pub settled_at : (p : ℕ) → p < 3 → get_or (settled_row m l) p Past ≡ settled m (place_want l p)
+  settled_at zero h = refl
+  settled_at (suc zero) h = refl
+  settled_at (suc (suc zero)) h = refl
+  settled_at (suc (suc (suc p))) h = absurd (let z : ⊥ = omega arith in z)
+
+  pub in_settled : (p : ℕ) → p < 3 → settled m (place_want l p) ∈ settled_row m l
+  in_settled p h = subst (λ (e : Edge). e ∈ settled_row m l) (settled_at p h) (member_at Past (settled_row m l) p (omega arith))
+
+  settled_in : (e : Edge) → e ∈ settled_row m l → (p : ℕ) × (p < 3) × (e ≡ settled m (place_want l p))
+  settled_in e k = let (p, h, q) = place_of Past (settled_row m l) e k in let hp : p < 3 = omega arith in (p, hp, q ∙ settled_at p hp)
+
 -- what w has of a node is what its tag's list says
-abbrev pub WiresOf : Record → List ℕ → Type 0
-WiresOf m w = (x : ℕ) → Node m x → (p : ℕ) → p < 3 → get_or w (x * 3 + p) 0 ≡ settled m (place_want (inputs (view m) (name_of m x)) p)
+abbrev pub WiresOf : Record → List (List Edge) → Type 0
+WiresOf m w = (x : ℕ) → Node m x → wires_of w x ≡ settled_row m (inputs (view m) (name_of m x))
 
 -- everything that the laws below rest on
-pub record Drawn (m : Record) (w : List ℕ) : Type 0 where
+pub record Drawn (m : Record) (w : List (List Edge)) : Type 0 where
   pub standing : Standing m
   pub short : (a : Tag) → length (inputs (view m) a) ≤ 3
   pub wires : WiresOf m w
 
-module _ {m : Record} {w : List ℕ} (d : Drawn m w) where
+module _ {m : Record} {w : List (List Edge)} (d : Drawn m w) where
   pub node-of : (a : Tag) → node_of m a < 192 → Node m (node_of m a)
   node-of a h = (h, ap (node_of m) (name-node m d.standing a h))
 
-  -- an entry that is a node is that of a tag in the list
-  entry_down : (i j p : ℕ) → Node m i → p < 3 → j < 192 → j ≡ get_or w (i * 3 + p) 0 → Node m j × Wire (view m) (name_of m i) (name_of m j)
-  entry_down i j p ni hp hj e = go (place_want (inputs (view m) (name_of m i)) p) refl
+  -- an input is the node of a tag in the list
+  down : (i j : ℕ) → Node m i → j ∈ inputs_of w i → Node m j × Wire (view m) (name_of m i) (name_of m j)
+  down i j ni k = go (place_want (inputs (view m) (name_of m i)) p) refl
     where
-      q : j ≡ settled m (place_want (inputs (view m) (name_of m i)) p)
-      q = e ∙ d.wires i ni p hp
+      wire : (e : Edge) × (e ∈ wires_of w i) × (target e ≡ Some j)
+      wire = input_wire w i k
+
+      at : (p : ℕ) × (p < 3) × (wire.0 ≡ settled m (place_want (inputs (view m) (name_of m i)) p))
+      at = settled_in m (inputs (view m) (name_of m i)) wire.0 (subst (λ (l : List Edge). wire.0 ∈ l) (d.wires i ni) wire.1)
+
+      p : ℕ
+      p = at.0
 
       go : (v : Want) → place_want (inputs (view m) (name_of m i)) p ≡ v → Node m j × Wire (view m) (name_of m i) (name_of m j)
       go (look a) f =
-          let r : j ≡ node_of m a = q ∙ ap (settled m) f in
+          let q : target (wire_to (node_of m a)) ≡ Some j = ap target (sym (at.2 ∙ ap (settled m) f)) ∙ wire.2 in
+          let r : j ≡ node_of m a = sym (target_of (node_of m a) q) in
+          let hj : j < 192 = target_small wire.0 wire.2 in
           let h : node_of m a < 192 = subst (λ (z : ℕ). z < 192) r hj in
           let n : name_of m j ≡ a = ap (name_of m) r ∙ name-node m d.standing a h in
           ((hj, ap (node_of m) n ∙ sym r), subst (λ (z : Tag). Wire (view m) (name_of m i) z) (sym n) (want_names (inputs (view m) (name_of m i)) p f))
-      go (fixed k) f = let r : j ≡ k = q ∙ ap (settled m) f in absurd (let z : ⊥ = omega (arith, want_fixed (inputs (view m) (name_of m i)) p f) in z)
-
-  down : (i j : ℕ) → Node m i → j ∈ inputs_of w i → Node m j × Wire (view m) (name_of m i) (name_of m j)
-  down i j ni k =
-      let (h, which) = entry_cases w i j k in
-      ⊎_elim (λ e. let z : i * 3 ≡ i * 3 + 0 = omega arith in entry_down i j 0 ni (omega arith) h (e ∙ ap (λ (y : ℕ). get_or w y 0) z))
-      (⊎_elim (λ e. entry_down i j 1 ni (omega arith) h e) (λ e. entry_down i j 2 ni (omega arith) h e))
-      which
-
-  entry_in : (i p : ℕ) → p < 3 → get_or w (i * 3 + p) 0 < 192 → get_or w (i * 3 + p) 0 ∈ inputs_of w i
-  entry_in i zero hp h = let z : i * 3 + 0 ≡ i * 3 = omega arith in subst (λ (y : ℕ). get_or w y 0 ∈ inputs_of w i) (sym z) (entry_0 w i (subst (λ (y : ℕ). get_or w y 0 < 192) z h))
-  entry_in i (suc zero) hp h = entry_1 w i h
-  entry_in i (suc (suc zero)) hp h = entry_2 w i h
-  entry_in i (suc (suc (suc p))) hp h = absurd (let z : ⊥ = omega arith in z)
+      go unassigned f = absurd (none_some (ap target (sym (at.2 ∙ ap (settled m) f)) ∙ wire.2))
+      go no_place f = absurd (none_some (ap target (sym (at.2 ∙ ap (settled m) f)) ∙ wire.2))
 
   -- a tag in the list of a node's tag has its node among the inputs, if it has one
   up : (i : ℕ) (b : Tag) → Node m i → Wire (view m) (name_of m i) b → node_of m b < 192 → node_of m b ∈ inputs_of w i
   up i b ni k h =
-      let (p, lt, e) = names_want (inputs (view m) (name_of m i)) k in
+      let l = inputs (view m) (name_of m i) in
+      let (p, lt, e) = names_want l k in
       let hp : p < 3 = omega (arith, d.short (name_of m i)) in
-      let q : get_or w (i * 3 + p) 0 ≡ node_of m b = d.wires i ni p hp ∙ ap (settled m) e in
-      subst (λ (z : ℕ). z ∈ inputs_of w i) q (entry_in i p hp (subst (λ (z : ℕ). z < 192) (sym q) h))
+      wire_input w i (settled m (place_want l p)) (subst (λ (r : List Edge). settled m (place_want l p) ∈ r) (sym (d.wires i ni)) (in_settled m l p hp)) (ap target (ap (settled m) e) ∙ target_to (node_of m b) h)
 
   -- a tag with a wire has a node
   pub wired-node : (a b : Tag) → Wire (view m) a b → node_of m a < 192

@@ -1,16 +1,18 @@
 -- Taking tags in, one after another, leaves the least of what the lists show. Assumes nothing.
-use Prim.Native.Nat.{ℕ, zero, suc, ◌+◌, ◌*◌, ◌/◌, ◌%◌, ◌≤◌, ◌<◌}
+use Prim.Native.Nat.{ℕ, zero, suc, ◌+◌, ◌/◌, ◌%◌, ◌≤◌, ◌<◌}
 use native.Mathlib.Omega.{arith}
-use native.Mathlib.Decide.{ℕ_discrete}
+use native.Mathlib.Decide.{ℕ_discrete, dec_lt}
 use mathlib.Core.Path.{◌≡◌, refl, sym, ap, subst, ◌∙◌}
 use mathlib.Core.Logic.{◌≢◌, ◌⊎◌, inl, inr, ⊎_elim}
 use mathlib.Core.Bool.{Bool, true, false, cond, true≢false}
 use mathlib.Core.List.{List, [], ◌∷◌, Memᴰ}
 use mathlib.Core.Option.{none, some}
-use lib.Dec.{ltb, eqb}
+use lib.Dec.{ltb}
 use lib.ListN.{length, get_or}
-use borrow.Author.Tests.{ltb-true, ltb-false, eqb-true, eqb-false}
+use borrow.Author.Tests.{ltb-true, ltb-false, lt-ltb, le-ltb}
 use Rattle.std.specs.Prelude.{Option, Some, None}
+use Rattle.std.specs.Option.{MatchOption}
+use Rattle.std.specs.List.{AllWithin, HoldsAt}
 use Rattle.tag.specs.Tags.{Tag, before}
 use Rattle.tag.specs.View.{bytes_of}
 use Rattle.tag.specs.declared.Tag.{Tag as Label}
@@ -23,8 +25,11 @@ use Rattle.held.proofs.Laws.Rows.{no_list}
 use Rattle.lacking.specs.declared.least.Shown.{Shown}
 use Rattle.resolving.specs.declared.slots.Slot.{Slot}
 use Rattle.resolving.specs.declared.slots.Slot.TheVariants.{Named, Unassigned, Past}
-use Rattle.resolving.specs.Slots.{Want, look, fixed, place_want, want_of, slot_of, node_of, settled}
-use Rattle.lacking.specs.Least.{only, take_in, absent_turn, gap_turn, LeastOf, AbsentShown, GapShown}
+use Rattle.nodes.specs.declared.Wire.{Wire}
+use Rattle.nodes.specs.declared.Wire.TheVariants.{To, Absent, Past as NoPlace}
+use Rattle.nodes.specs.Nodes.{wire_to}
+use Rattle.resolving.specs.Slots.{Want, look, unassigned, no_place, place_want, want_of, slot_of, node_of, settled, owner_of}
+use Rattle.lacking.specs.Least.{only, take_in, marked_at, component_at, gap_at, absent_turn, GapTurned, unmarked, full, first, LeastOf, AbsentShown, GapShown}
 
 -- ---- the least
 
@@ -66,24 +71,31 @@ least-same R (Some b) g f h = record { found = f _ _ g.found; least = λ a k s. 
 
 -- ---- 12: one slot more
 
-module _ (m : Record) (found : List ℕ) (seen : List Bool) where
+component_to : (x : ℕ) → component_at (wire_to x) ≡ ltb x 64
+component_to x = go (dec_lt x 192)
+  where
+    go : Dec (x < 192) → component_at (wire_to x) ≡ ltb x 64
+    go (yes h) = simp (lt-ltb x 192 h)
+    go (no n) = simp (le-ltb x 192 (omega arith), le-ltb x 64 (omega arith))
+
+module _ (m : Record) (found : List (List Wire)) (seen : List Bool) where
   pub absent-start : LeastOf (AbsentShown no_list m found seen 0) None
   absent-start a k s = let z : ⊥ = omega (arith, s.below) in z
 
   module _ (j : ℕ) (b : Option Shown) (g : LeastOf (AbsentShown no_list m found seen j) b) (s : Slot) (right : slot_of s ≡ want_of (get_or m.lists (j / 4) no_list) (j % 4))
-      (v : ℕ) (comes : v ≡ settled m (want_of (get_or m.lists (j / 4) no_list) (j % 4))) where
+      (v : Wire) (comes : v ≡ settled m (want_of (get_or m.lists (j / 4) no_list) (j % 4))) where
     old : (a : Tag) (k : ℕ) → AbsentShown no_list m found seen j a k → AbsentShown no_list m found seen (j + 1) a k
     old a k h = record { slot = h.slot; below = omega (arith, h.below); marked = h.marked; names = h.names; absent = h.absent; index = h.index }
 
     abbrev Here : Tag → Type 0
-    Here a = (get_or seen (get_or found (j / 4 * 4) 0) false ≡ true) × (want_of (get_or m.lists (j / 4) no_list) (j % 4) ≡ look a) × (64 ≤ node_of m a)
+    Here a = (marked_at seen (owner_of found (j / 4)) ≡ true) × (want_of (get_or m.lists (j / 4) no_list) (j % 4) ≡ look a) × (64 ≤ node_of m a)
 
     split : (a : Tag) (k : ℕ) → AbsentShown no_list m found seen (j + 1) a k → AbsentShown no_list m found seen j a k ⊎ Here a
     split a k h = by (ℕ_discrete h.slot j)
       where
         by : Dec (h.slot ≡ j) → AbsentShown no_list m found seen j a k ⊎ Here a
         by (yes e) = inr (
-          subst (λ (z : ℕ). get_or seen (get_or found (z / 4 * 4) 0) false ≡ true) e h.marked,
+          subst (λ (z : ℕ). marked_at seen (owner_of found (z / 4)) ≡ true) e h.marked,
           subst (λ (z : ℕ). want_of (get_or m.lists (z / 4) no_list) (z % 4) ≡ look a) e h.names,
           h.absent,
         )
@@ -92,41 +104,43 @@ module _ (m : Record) (found : List ℕ) (seen : List Bool) where
     skip : ((a : Tag) → ¬ Here a) → LeastOf (AbsentShown no_list m found seen (j + 1)) b
     skip n = least-same (AbsentShown no_list m found seen (j + 1)) b g old (λ a k h. ⊎_elim (λ x. x) (λ x. absurd (n a x)) (split a k h))
 
-    number : (a : Tag) → want_of (get_or m.lists (j / 4) no_list) (j % 4) ≡ look a → v ≡ node_of m a
+    number : (a : Tag) → want_of (get_or m.lists (j / 4) no_list) (j % 4) ≡ look a → v ≡ wire_to (node_of m a)
     number a e = comes ∙ ap (settled m) e
 
-    unlike : {k : ℕ} {a : Tag} → fixed k ≡ look a → ⊥
-    unlike e = let z : ◌≡◌ {A = ℕ} 0 1 = cc in omega arith
+    gap_names : {a : Tag} → unassigned ≡ look a → ⊥
+    gap_names e = let z : ◌≡◌ {A = ℕ} 0 1 = cc in omega arith
+
+    none_names : {a : Tag} → no_place ≡ look a → ⊥
+    none_names e = let z : ◌≡◌ {A = ℕ} 0 1 = cc in omega arith
 
     same : {a c : Tag} → look a ≡ look c → a ≡ c
     same e = cc
 
-    pub absent_more : (mark : Bool) → mark ≡ get_or seen (get_or found (j / 4 * 4) 0) false → LeastOf (AbsentShown no_list m found seen (j + 1)) (absent_turn b s v mark)
-    absent_more mark em = go s right mark em (ltb v 64) refl
+    pub absent_more : (mark : Bool) → mark ≡ marked_at seen (owner_of found (j / 4)) → LeastOf (AbsentShown no_list m found seen (j + 1)) (absent_turn b s v mark)
+    absent_more mark em = go s right mark em (component_at v) refl
       where
-        go : (s : Slot) → slot_of s ≡ want_of (get_or m.lists (j / 4) no_list) (j % 4) → (x : Bool) → x ≡ get_or seen (get_or found (j / 4 * 4) 0) false → (y : Bool) → ltb v 64 ≡ y
+        go : (s : Slot) → slot_of s ≡ want_of (get_or m.lists (j / 4) no_list) (j % 4) → (x : Bool) → x ≡ marked_at seen (owner_of found (j / 4)) → (y : Bool) → component_at v ≡ y
             → LeastOf (AbsentShown no_list m found seen (j + 1)) (absent_turn b s v x)
-        go Unassigned e x ex y ey = skip (λ a h. unlike (e ∙ h.1))
-        go Past e x ex y ey = skip (λ a h. unlike (e ∙ h.1))
+        go Unassigned e x ex y ey = skip (λ a h. gap_names (e ∙ h.1))
+        go Past e x ex y ey = skip (λ a h. none_names (e ∙ h.1))
         go (Named t) e false ex y ey = skip (λ a h. true≢false (sym h.0 ∙ sym ex))
-        go (Named t) e true ex true ey = rw ey (skip (λ a h. let lt : v < 64 = ltb-true _ _ ey in let w : ⊥ = omega (arith, number a h.1, h.2) in w))
+        go (Named t) e true ex true ey = rw ey (skip (λ a h. let lt : node_of m a < 64 = ltb-true _ _ (sym (component_to (node_of m a)) ∙ sym (ap component_at (number a h.1)) ∙ ey) in let w : ⊥ = omega (arith, h.2) in w))
         go (Named t) e true ex false ey =
-            let ge : 64 ≤ v = ltb-false _ _ ey in
             rw ey (take-least (AbsentShown no_list m found seen (j + 1)) b t 0 g old
-            (record { slot = j; below = omega arith; marked = sym ex; names = sym e; absent = omega (arith, number (bytes_of t) (sym e)); index = refl })
+            (record { slot = j; below = omega arith; marked = sym ex; names = sym e; absent = ltb-false _ _ (sym (component_to (node_of m (bytes_of t))) ∙ sym (ap component_at (number (bytes_of t) (sym e))) ∙ ey); index = refl })
             (λ a k h. ⊎_elim (λ x. inl x) (λ x. inr (same (sym x.1 ∙ sym e))) (split a k h)))
 
 -- ---- 13: the first gap of a list
 
-gap_first : (l : List Place) (k p : ℕ) → place_want l p ≡ fixed 193 → ((i : ℕ) → i < p → place_want l i ≢ fixed 193) → gap k l ≡ some (k + p)
+gap_first : (l : List Place) (k p : ℕ) → place_want l p ≡ unassigned → ((i : ℕ) → i < p → place_want l i ≢ unassigned) → gap k l ≡ some (k + p)
 unfolding gap place_want
-gap_first [] k p e n = absurd (let z : ◌≡◌ {A = ℕ} 194 193 = cc in let w : ⊥ = omega arith in w)
+gap_first [] k p e n = absurd (let z : ◌≡◌ {A = ℕ} 0 1 = cc in let w : ⊥ = omega arith in w)
 gap_first (none ∷ l) k zero e n = ap some (omega arith)
 gap_first (some a ∷ l) k zero e n = absurd (let z : ◌≡◌ {A = ℕ} 0 1 = cc in let w : ⊥ = omega arith in w)
 gap_first (none ∷ l) k (suc p) e n = absurd (n 0 (omega arith) refl)
 gap_first (some a ∷ l) k (suc p) e n = gap_first l (suc k) p e (λ i h. n (suc i) (omega arith)) ∙ ap some (omega arith)
 
-gap_none : (l : List Place) (k : ℕ) → ((p : ℕ) → p < length l → place_want l p ≢ fixed 193) → gap k l ≡ none
+gap_none : (l : List Place) (k : ℕ) → ((p : ℕ) → p < length l → place_want l p ≢ unassigned) → gap k l ≡ none
 unfolding gap place_want
 gap_none [] k n = refl
 gap_none (none ∷ l) k n = absurd (n 0 (omega arith) refl)
@@ -145,7 +159,32 @@ there_gap (none ∷ l) k h = (k, refl)
 there_gap (some a ∷ l) k (Memᴰ.head e) = absurd (let z : ◌≡◌ {A = ℕ} 0 1 = cc in let w : ⊥ = omega arith in w)
 there_gap (some a ∷ l) k (Memᴰ.tail h) = there_gap l (suc k) h
 
-module _ (m : Record) (found : List ℕ) (seen : List Bool) (within : (a : Tag) → node_of m a ≤ 192) where
+-- what a search of three places for a gap says
+abbrev pub Searched : List Wire → Option ℕ → Type 0
+Searched places r = MatchOption r (AllWithin (λ e. gap_at e ≡ false) places 0 (length places)) (λ i. (i < length places) × HoldsAt (λ e. gap_at e ≡ true) places i × AllWithin (λ e. gap_at e ≡ false) places 0 i)
+
+module _ (b : Option Shown) (t : Label) (places : List Wire) (mark : Bool) (on : mark ≡ true) (size : length places ≡ 3) where
+  pub gap_found : (p : ℕ) → Searched places (Some p) → GapTurned b t places mark (take_in b t p)
+  gap_found p (h, at, earlier) = first p on (omega (arith, size)) (at NoPlace) (λ i lt. earlier i NoPlace (omega arith) lt)
+
+  pub gap_missing : Searched places None → GapTurned b t places mark b
+  gap_missing never = full on (λ p h. never p NoPlace (omega arith) (omega (arith, size)))
+
+-- a fact of each of three wires
+pub three : (P : ℕ → Wire → Type 0) (a b c : Wire) → P 0 a → P 1 b → P 2 c → (p : ℕ) → p < 3 → P p (get_or (a ∷ b ∷ c ∷ []) p NoPlace)
+three P a b c pa pb pc zero h = pa
+three P a b c pa pb pc (suc zero) h = pb
+three P a b c pa pb pc (suc (suc zero)) h = pc
+three P a b c pa pb pc (suc (suc (suc p))) h = absurd (let z : ⊥ = omega arith in z)
+
+to_no_gap : (x : ℕ) → gap_at (wire_to x) ≡ false
+to_no_gap x = go (ltb x 192)
+  where
+    go : (v : Bool) → gap_at (cond v (To x) Absent) ≡ false
+    go true = refl
+    go false = refl
+
+module _ (m : Record) (found : List (List Wire)) (seen : List Bool) where
   pub gap_start : LeastOf (GapShown no_list m found seen 0) None
   gap_start a k s = let z : ⊥ = omega (arith, s.below) in z
 
@@ -156,60 +195,43 @@ module _ (m : Record) (found : List ℕ) (seen : List Bool) (within : (a : Tag) 
     abbrev tag : Label
     tag = (get_or m.lists j no_list).tag
 
-    module _ (short : length places ≤ 3) (comes : (p : ℕ) → p < 3 → get_or found (j * 4 + 1 + p) 0 ≡ settled m (place_want places p)) where
+    module _ (wires : List Wire) (short : length places ≤ 3) (comes : (p : ℕ) → p < 3 → get_or wires p NoPlace ≡ settled m (place_want places p)) where
       kept : (a : Tag) (k : ℕ) → GapShown no_list m found seen j a k → GapShown no_list m found seen (j + 1) a k
       kept a k h = record { list = h.list; below = omega (arith, h.below); marked = h.marked; tag = h.tag; gap = h.gap }
 
-      parted : (a : Tag) (k : ℕ) → GapShown no_list m found seen (j + 1) a k → GapShown no_list m found seen j a k ⊎ ((get_or seen (get_or found (j * 4) 0) false ≡ true) × (bytes_of tag ≡ a) × (gap 0 places ≡ some k))
+      parted : (a : Tag) (k : ℕ) → GapShown no_list m found seen (j + 1) a k → GapShown no_list m found seen j a k ⊎ ((marked_at seen (owner_of found j) ≡ true) × (bytes_of tag ≡ a) × (gap 0 places ≡ some k))
       parted a k h = by (ℕ_discrete h.list j)
         where
-          by : Dec (h.list ≡ j) → GapShown no_list m found seen j a k ⊎ ((get_or seen (get_or found (j * 4) 0) false ≡ true) × (bytes_of tag ≡ a) × (gap 0 places ≡ some k))
+          by : Dec (h.list ≡ j) → GapShown no_list m found seen j a k ⊎ ((marked_at seen (owner_of found j) ≡ true) × (bytes_of tag ≡ a) × (gap 0 places ≡ some k))
           by (yes e) = inr (
-            subst (λ (z : ℕ). get_or seen (get_or found (z * 4) 0) false ≡ true) e h.marked,
+            subst (λ (z : ℕ). marked_at seen (owner_of found z) ≡ true) e h.marked,
             subst (λ (z : ℕ). bytes_of (get_or m.lists z no_list).tag ≡ a) e h.tag,
             subst (λ (z : ℕ). gap 0 (rows place_of (get_or m.lists z no_list).count (get_or m.lists z no_list).places) ≡ some k) e h.gap,
           )
           by (no n) = inl (record { list = h.list; below = omega (arith, h.below); marked = h.marked; tag = h.tag; gap = h.gap })
 
-      -- a place came to 193 exactly if it is unassigned
-      unassigned : (p : ℕ) → p < 3 → get_or found (j * 4 + 1 + p) 0 ≡ 193 → place_want places p ≡ fixed 193
-      unassigned p h e = go (place_want places p) refl
+      -- a place came to a gap exactly if it is unassigned
+      unassigned_at : (p : ℕ) → p < 3 → gap_at (get_or wires p NoPlace) ≡ true → place_want places p ≡ unassigned
+      unassigned_at p h e = go (place_want places p) refl
         where
-          go : (w : Want) → place_want places p ≡ w → w ≡ fixed 193
-          go (look a) q = let n : node_of m a ≡ 193 = ap (settled m) (sym q) ∙ sym (comes p h) ∙ e in absurd (let z : ⊥ = omega (arith, within a) in z)
-          go (fixed k) q = ap fixed (ap (settled m) (sym q) ∙ sym (comes p h) ∙ e)
+          go : (w : Want) → place_want places p ≡ w → w ≡ unassigned
+          go (look a) q = absurd (true≢false (sym e ∙ ap gap_at (comes p h ∙ ap (settled m) q) ∙ to_no_gap (node_of m a)))
+          go unassigned q = refl
+          go no_place q = absurd (true≢false (sym e ∙ ap gap_at (comes p h ∙ ap (settled m) q)))
 
-      assigned : (p : ℕ) → p < 3 → ¬ (get_or found (j * 4 + 1 + p) 0 ≡ 193) → place_want places p ≢ fixed 193
-      assigned p h n e = n (comes p h ∙ ap (settled m) e)
+      assigned : (p : ℕ) → p < 3 → gap_at (get_or wires p NoPlace) ≡ false → place_want places p ≢ unassigned
+      assigned p h n e = true≢false (sym (ap gap_at (comes p h ∙ ap (settled m) e)) ∙ n)
 
-      pass : (get_or seen (get_or found (j * 4) 0) false ≡ true → gap 0 places ≡ none) → LeastOf (GapShown no_list m found seen (j + 1)) b
+      pass : (marked_at seen (owner_of found j) ≡ true → gap 0 places ≡ none) → LeastOf (GapShown no_list m found seen (j + 1)) b
       pass n = least-same (GapShown no_list m found seen (j + 1)) b g kept (λ a k h. ⊎_elim (λ x. x) (λ x. absurd (never (n x.0) x.2)) (parted a k h))
         where
           never : {k : ℕ} → gap 0 places ≡ none → gap 0 places ≡ some k → ⊥
           never p q = let z : ◌≡◌ {A = ℕ} 0 1 = cc in omega arith
 
-      take : (p : ℕ) → get_or seen (get_or found (j * 4) 0) false ≡ true → gap 0 places ≡ some p → LeastOf (GapShown no_list m found seen (j + 1)) (take_in b tag p)
+      take : (p : ℕ) → marked_at seen (owner_of found j) ≡ true → gap 0 places ≡ some p → LeastOf (GapShown no_list m found seen (j + 1)) (take_in b tag p)
       take p x e = take-least (GapShown no_list m found seen (j + 1)) b tag p g kept (record { list = j; below = omega arith; marked = x; tag = refl; gap = e }) (λ a k h. ⊎_elim (λ y. inl y) (λ y. inr (sym y.1)) (parted a k h))
 
-      first : (p : ℕ) → p < 3 → get_or found (j * 4 + 1 + p) 0 ≡ 193 → ((i : ℕ) → i < p → ¬ (get_or found (j * 4 + 1 + i) 0 ≡ 193)) → gap 0 places ≡ some p
-      first p h e n = gap_first places 0 p (unassigned p h e) (λ i lt. assigned i (omega arith) (n i lt)) ∙ ap some (omega arith)
-
-      pub gap_more : (p q r : ℕ) → p ≡ get_or found (j * 4 + 1 + 0) 0 → q ≡ get_or found (j * 4 + 1 + 1) 0 → r ≡ get_or found (j * 4 + 1 + 2) 0
-          → (mark : Bool) → mark ≡ get_or seen (get_or found (j * 4) 0) false → LeastOf (GapShown no_list m found seen (j + 1)) (gap_turn b tag p q r mark)
-      gap_more p q r ep eq er mark em = subst (λ (y : Bool). LeastOf (GapShown no_list m found seen (j + 1)) (gap_turn b tag p q r y)) (sym em) (go (get_or seen (get_or found (j * 4) 0) false) refl (eqb p 193) refl (eqb q 193) refl (eqb r 193) refl)
-        where
-          below : (P : ℕ → Type 0) (p : ℕ) → p < 3 → P 0 → P 1 → P 2 → P p
-          below P zero h a b c = a
-          below P (suc zero) h a b c = b
-          below P (suc (suc zero)) h a b c = c
-          below P (suc (suc (suc p))) h a b c = absurd (let z : ⊥ = omega arith in z)
-
-          go : (x : Bool) → get_or seen (get_or found (j * 4) 0) false ≡ x → (y : Bool) → eqb p 193 ≡ y → (z : Bool) → eqb q 193 ≡ z → (w : Bool) → eqb r 193 ≡ w
-              → LeastOf (GapShown no_list m found seen (j + 1)) (cond x (cond y (take_in b tag 0) (cond z (take_in b tag 1) (cond w (take_in b tag 2) b))) b)
-          go false ex y ey z ez w ew = pass (λ h. absurd (true≢false (sym h ∙ ex)))
-          go true ex true ey z ez w ew = take 0 (ex) (first 0 (omega arith) (sym ep ∙ eqb-true _ _ ey) (λ i lt. absurd (let v : ⊥ = omega arith in v)))
-          go true ex false ey true ez w ew = take 1 (ex) (first 1 (omega arith) (sym eq ∙ eqb-true _ _ ez) (λ i lt e. let f : i ≡ 0 = omega arith in eqb-false _ _ ey (ep ∙ ap (λ (v : ℕ). get_or found (j * 4 + 1 + v) 0) (sym f) ∙ e)))
-          go true ex false ey false ez true ew = take 2 (ex) (first 2 (omega arith) (sym er ∙ eqb-true _ _ ew)
-              (λ i lt. below (λ (v : ℕ). v < 2 → ¬ (get_or found (j * 4 + 1 + v) 0 ≡ 193)) i (omega arith) (λ h e. eqb-false _ _ ey (ep ∙ e)) (λ h e. eqb-false _ _ ez (eq ∙ e)) (λ h. absurd (let v : ⊥ = omega arith in v)) lt))
-          go true ex false ey false ez false ew = pass (λ h. gap_none places 0 (λ p lt. assigned p (omega arith)
-              (below (λ (v : ℕ). ¬ (get_or found (j * 4 + 1 + v) 0 ≡ 193)) p (omega arith) (λ e. eqb-false _ _ ey (ep ∙ e)) (λ e. eqb-false _ _ ez (eq ∙ e)) (λ e. eqb-false _ _ ew (er ∙ e)))))
+      pub gap_more : (mark : Bool) → mark ≡ marked_at seen (owner_of found j) → (r : Option Shown) → GapTurned b tag wires mark r → LeastOf (GapShown no_list m found seen (j + 1)) r
+      gap_more mark em r (unmarked e) = pass (λ h. absurd (true≢false (sym h ∙ sym em ∙ e)))
+      gap_more mark em r (full e each) = pass (λ h. gap_none places 0 (λ p lt. assigned p (omega arith) (each p (omega arith))))
+      gap_more mark em r (first p e h at earlier) = take p (sym em ∙ e) (gap_first places 0 p (unassigned_at p h at) (λ i lt. assigned i (omega arith) (earlier i lt)) ∙ ap some (omega arith))

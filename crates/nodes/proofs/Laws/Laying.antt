@@ -4,7 +4,7 @@ use native.Mathlib.Numerals.{add-one}
 use native.Mathlib.Omega.{arith}
 use native.Mathlib.Decide.{dec_lt}
 use mathlib.Core.Path.{◌≡◌, refl, sym, ap, subst, ◌∙◌}
-use mathlib.Core.Logic.{◌⊎◌, inl, inr, ⊎_elim}
+use mathlib.Core.Logic.{inl, inr, ⊎_elim}
 use mathlib.Core.Bool.{true}
 use mathlib.Core.List.Memᴰ
 use mathlib.Core.List.{List, [], ◌∷◌, ◌++◌, append_assoc, append-nil}
@@ -13,19 +13,22 @@ use lib.Dec.{ltb}
 use lib.Seq.{take-suc}
 use borrow.Author.Tests.{true-ltb}
 use Rattle.std.proofs.lemmas.Grind.{get_or_default_zero}
-use Rattle.nodes.specs.Nodes.{◌∈◌, Reaches, itself, wired, Circular, Laid, IsOrder, inputs_of, entries_of, AreDistinct, Next, NotNext, Met, stayed, joined, IsReach}
+use Rattle.std.specs.Prelude.{Some}
+use Rattle.nodes.specs.declared.Wire.{Wire}
+use Rattle.nodes.specs.declared.Wire.TheVariants.{Past}
+use Rattle.nodes.specs.Nodes.{◌∈◌, Reaches, itself, wired, Circular, Laid, IsOrder, target, wires_of, inputs_of, Grown, AreDistinct, Next, NotNext, Met, stayed, joined, IsReach}
 use Rattle.nodes.proofs.Laws.Order.{laid_none, laid_more, laid-length, laid-order, stuck_cyclic, reach_in}
-use Rattle.nodes.proofs.Laws.Wires.{up_to, length_up_to, mem_up_to, reach-small, place_of, member_at, entry_input, input_entry}
+use Rattle.nodes.proofs.Laws.Wires.{up_to, length_up_to, mem_up_to, reach-small, target_small, place_of, member_at, wire_input, input_wire}
 use Rattle.nodes.proofs.Laws.Lists.{distinct_none, distinct_more}
 
 -- ---- laying
 
 -- what holds while the nodes of t's reach are laid
-pub record Going (w : List ℕ) (t : ℕ) (xs : List ℕ) : Type 0 where
+pub record Going (w : List (List Wire)) (t : ℕ) (xs : List ℕ) : Type 0 where
   pub laid : Laid (inputs_of w) xs
   pub only : (a : ℕ) → a ∈ xs → Reaches (inputs_of w) t a
 
-module _ (w : List ℕ) (t : ℕ) where
+module _ (w : List (List Wire)) (t : ℕ) where
   pub going_start : Going w t []
   going_start = record { laid = laid_none (inputs_of w); only = λ a m. absurd (Memᴰ.not-nil m) }
 
@@ -48,39 +51,34 @@ module _ (w : List ℕ) (t : ℕ) where
 
 -- ---- the reach
 
--- ys after meeting the nodes of es, xs before it
-pub record Grown (xs es ys : List ℕ) : Type 0 where
-  pub nodes : AreDistinct ys
-  pub more : List ℕ
-  pub is : ys ≡ xs ++ more
-  pub has : (b : ℕ) → b ∈ es → b < 192 → b ∈ ys
-  pub only : (a : ℕ) → a ∈ ys → (a ∈ xs) ⊎ ((a < 192) × (a ∈ es))
+pub grown_none : {xs : List ℕ} → Grown xs [] xs
+grown_none {xs} = record { nodes = λ d. d; more = []; is = sym (append-nil xs); has = λ e m. absurd (Memᴰ.not-nil m); only = λ a m. inl m }
 
-pub grown_none : {xs : List ℕ} → AreDistinct xs → Grown xs [] xs
-grown_none {xs} d = record { nodes = d; more = []; is = sym (append-nil xs); has = λ b m. absurd (Memᴰ.not-nil m); only = λ a m. inl m }
-
-pub grown_more : {xs es ys : List ℕ} → Grown xs es ys → (x : ℕ) (zs : List ℕ) → Met ys x zs → Grown xs (es ++ (x ∷ [])) zs
-grown_more {xs} {es} {ys} g x _ (stayed old) = record {
+pub grown_more : {xs : List ℕ} {es : List Wire} {ys : List ℕ} → Grown xs es ys → (d : Wire) (zs : List ℕ) → Met ys d zs → Grown xs (es ++ (d ∷ [])) zs
+grown_more {xs} {es} {ys} g d _ (stayed old) = record {
   nodes = g.nodes;
   more = g.more;
   is = g.is;
-  has = λ b m h. ⊎_elim (λ k. g.has b k h) (λ k. let e : b ≡ x = Memᴰ.eq_of_singleton k in subst (λ (z : ℕ). z ∈ ys) (sym e) (old (subst (λ (z : ℕ). z < 192) e h))) (Memᴰ.append_cases es m);
-  only = λ a m. ⊎_elim (λ k. inl k) (λ q. inr (q.0, Memᴰ.append_left (x ∷ []) q.1)) (g.only a m);
+  has = λ e m b q. ⊎_elim (λ k. g.has e k b q) (λ k. old b (ap target (sym (Memᴰ.eq_of_singleton k)) ∙ q)) (Memᴰ.append_cases es m);
+  only = λ a m. ⊎_elim (λ k. inl k) (λ q. inr (q.0, Memᴰ.append_left (d ∷ []) q.1, q.2)) (g.only a m);
 }
-grown_more {xs} {es} {ys} g x _ (joined low new) = record {
-  nodes = distinct_more g.nodes x low new;
+grown_more {xs} {es} {ys} g d _ (joined x to new) = record {
+  nodes = λ k. distinct_more (g.nodes k) x (target_small d to) new;
   more = g.more ++ (x ∷ []);
   is = ap (λ (l : List ℕ). l ++ (x ∷ [])) g.is ∙ append_assoc xs g.more (x ∷ []);
-  has = λ b m h. ⊎_elim (λ k. Memᴰ.append_left (x ∷ []) (g.has b k h)) (λ k. Memᴰ.append_right ys k) (Memᴰ.append_cases es m);
-  only = λ a m. ⊎_elim (λ k. ⊎_elim (λ j. inl j) (λ q. inr (q.0, Memᴰ.append_left (x ∷ []) q.1)) (g.only a k))
-      (λ k. inr (subst (λ (z : ℕ). z < 192) (sym (Memᴰ.eq_of_singleton k)) low, Memᴰ.append_right es k)) (Memᴰ.append_cases ys m);
+  has = λ e m b q. ⊎_elim (λ k. Memᴰ.append_left (x ∷ []) (g.has e k b q)) (λ k. Memᴰ.append_right ys (Memᴰ.head (same (sym q ∙ ap target (Memᴰ.eq_of_singleton k) ∙ to)))) (Memᴰ.append_cases es m);
+  only = λ a m. ⊎_elim (λ k. ⊎_elim (λ j. inl j) (λ q. inr (q.0, Memᴰ.append_left (d ∷ []) q.1, q.2)) (g.only a k))
+      (λ k. inr (d, Memᴰ.append_right es (Memᴰ.head refl), to ∙ ap Some (sym (Memᴰ.eq_of_singleton k)))) (Memᴰ.append_cases ys m);
 }
+  where
+    same : {a b : ℕ} → Some a ≡ Some b → a ≡ b
+    same e = cc
 
-pub grown_at : {xs : List ℕ} (es : List ℕ) {ys : List ℕ} (k : ℕ) → k < length es → Grown xs (take k es) ys → (zs : List ℕ) → Met ys (get_or es k 0) zs → Grown xs (take (k + 1) es) zs
-grown_at {xs} es k h g zs m = rw (add-one, take-suc es k 0 h) (grown_more g (get_or es k 0) zs m)
+pub grown_at : {xs : List ℕ} (es : List Wire) {ys : List ℕ} (k : ℕ) → k < length es → Grown xs (take k es) ys → (zs : List ℕ) → Met ys (get_or es k Past) zs → Grown xs (take (k + 1) es) zs
+grown_at {xs} es k h g zs m = rw (add-one, take-suc es k Past h) (grown_more g (get_or es k Past) zs m)
 
 -- what holds while the reach of t is found: what is met is reached, t is met, and so are the inputs of the first i
-pub record Walking (w : List ℕ) (t : ℕ) (xs : List ℕ) (i : ℕ) : Type 0 where
+pub record Walking (w : List (List Wire)) (t : ℕ) (xs : List ℕ) (i : ℕ) : Type 0 where
   pub nodes : AreDistinct xs
   pub i_le : i ≤ length xs
   pub has : t ∈ xs
@@ -93,13 +91,13 @@ node_at {nodes} {i} {x} e h f =
     let k : i < length nodes = true-ltb i (length nodes) h in
     rw (← e) (k, f ∙ get_or_default_zero nodes i x k)
 
-module _ (w : List ℕ) (t : ℕ) where
-  pub walking_first : t < 192 → {xs : List ℕ} → Met [] t xs → Walking w t xs 0
-  walking_first h {xs} p = let g : Grown [] (t ∷ []) xs = grown_more (grown_none distinct_none) t xs p in record {
-    nodes = g.nodes;
+module _ (w : List (List Wire)) (t : ℕ) where
+  pub walking_first : t < 192 → Walking w t (t ∷ []) 0
+  walking_first h = record {
+    nodes = distinct_more distinct_none t h Memᴰ.not-nil;
     i_le = omega arith;
-    has = g.has t (Memᴰ.head refl) h;
-    only = λ a m. ⊎_elim (λ j. absurd (Memᴰ.not-nil j)) (λ q. subst (λ (z : ℕ). Reaches (inputs_of w) t z) (sym (Memᴰ.eq_of_singleton q.1)) itself) (g.only a m);
+    has = Memᴰ.head refl;
+    only = λ a m. subst (λ (z : ℕ). Reaches (inputs_of w) t z) (sym (Memᴰ.eq_of_singleton m)) itself;
     done = λ k hk. absurd (let z : ⊥ = omega arith in z);
   }
 
@@ -108,19 +106,19 @@ module _ (w : List ℕ) (t : ℕ) where
     walking_end h = record {
       nodes = g.nodes;
       only = g.only;
-      all = reach_in (inputs_of w) (λ (z : ℕ). z ∈ xs) g.has (λ a b p k. let (j, hj, e) = place_of xs a p in g.done j (omega arith) b (subst (λ (z : ℕ). b ∈ inputs_of w z) e k));
+      all = reach_in (inputs_of w) (λ (z : ℕ). z ∈ xs) g.has (λ a b p k. let (j, hj, e) = place_of 0 xs a p in g.done j (omega arith) b (subst (λ (z : ℕ). b ∈ inputs_of w z) e k));
     }
 
     pub walking_low : i < length xs → get_or xs i 0 < 192
-    walking_low h = g.nodes.small _ (member_at xs i h)
+    walking_low h = g.nodes.small _ (member_at 0 xs i h)
 
     -- a turn: the inputs of the node at i are met
-    pub walking_turn : i < length xs → {ys : List ℕ} → Grown xs (entries_of w (get_or xs i 0)) ys → Walking w t ys (i + 1)
+    pub walking_turn : i < length xs → {ys : List ℕ} → Grown xs (wires_of w (get_or xs i 0)) ys → Walking w t ys (i + 1)
     walking_turn hi {ys} p = record {
-      nodes = p.nodes;
+      nodes = p.nodes g.nodes;
       i_le = omega (arith, length-append xs p.more, ap length p.is);
       has = kept t g.has;
-      only = λ a m. ⊎_elim (g.only a) (λ q. wired (g.only x (member_at xs i hi)) (entry_input w x q.0 q.1)) (p.only a m);
+      only = λ a m. ⊎_elim (g.only a) (λ q. wired (g.only x (member_at 0 xs i hi)) (wire_input w x q.0 q.1 q.2)) (p.only a m);
       done = λ k hk b j. turn k hk b j (dec_lt k i);
     }
       where
@@ -137,5 +135,5 @@ module _ (w : List ℕ) (t : ℕ) where
         turn k hk b j (yes lt) = kept b (g.done k lt b (subst (λ (z : ℕ). b ∈ inputs_of w z) (same k (omega arith)) j))
         turn k hk b j (no nlt) =
             let e : k ≡ i = omega arith in
-            let (h, m) = input_entry w x (subst (λ (z : ℕ). b ∈ inputs_of w z) (same k (omega arith) ∙ ap (λ (z : ℕ). get_or xs z 0) e) j) in
-            p.has b m h
+            let (d, m, q) = input_wire w x (subst (λ (z : ℕ). b ∈ inputs_of w z) (same k (omega arith) ∙ ap (λ (z : ℕ). get_or xs z 0) e) j) in
+            p.has d m b q

@@ -17,4 +17,4 @@ module _ (c : goal.After-all-whole) where
   tested = subst (λ l. Tested IsWhole NotWhole l c.all-whole.result) c.nodes.ensures.same (cases_from_all _ _ _ IsWhole NotWhole c.all-whole.ensures.ran (YieldsList-from_slice c.nodes.result.now cc) (λ x q k. search (rules, tests)) (λ x q k. search (rules, tests)))
 
 pub returns : goal.returns
-returns c = λ h. record { reached = c.reach-reach.ensures; laid = c.lay-order.ensures; test = each_passes (IsWhole c) (NotWhole c) c.reach-reach.result c.all-whole.result (tested c) }
+returns c = λ h. record { reached = c.reach-reach.ensures; laid = c.lay-order.ensures; test = each_passes 0 (IsWhole c) (NotWhole c) c.reach-reach.result c.all-whole.result (tested c) }

@@ -1,10 +1,7 @@
 -- `nodes::reach` meets its contract: `Laws/Laying.antt`. Assumes nothing.
-use Rattle.std.proofs.Common.{◌-◌, take}
-use Rattle.nodes.proofs.Laws.Laying.{Walking, Grown}
+use Rattle.std.proofs.Common.{◌-◌}
+use Rattle.nodes.proofs.Laws.Laying.{Walking}
 use Rattle.nodes.proofs.reach.Given as goal
-
-abbrev pub invariant-loop-y : goal.invariant-loop-y
-invariant-loop-y l = Grown l.initial.line (take l.y-index l.y-items) l.line
 
 abbrev pub invariant-loop-x : goal.invariant-loop-x
 invariant-loop-x l = Walking l.w l.t l.line l.i

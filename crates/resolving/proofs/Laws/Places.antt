@@ -14,13 +14,19 @@ use Rattle.model.specs.declared.implicit_model.InputList.{InputList}
 use Rattle.model.specs.Model.{Place}
 use Rattle.model.specs.View.{PlaceRecord, place_of, rows}
 use Rattle.model.proofs.Laws.Valid.{some_some, none_some}
-use Rattle.resolving.specs.Slots.{Want, look, fixed, place_want, want_of}
+use Rattle.resolving.specs.Slots.{Want, look, unassigned, no_place, place_want, want_of}
+
+none_names : {a : Tag} → no_place ≡ look a → ⊥
+none_names e = let z : ◌≡◌ {A = ℕ} 0 1 = cc in omega arith
+
+gap_names : {a : Tag} → unassigned ≡ look a → ⊥
+gap_names e = let z : ◌≡◌ {A = ℕ} 0 1 = cc in omega arith
 
 -- a place that names a tag is one of the list's
 pub want_names : (l : List Place) (p : ℕ) {a : Tag} → place_want l p ≡ look a → Memᴰ (some a) l
 unfolding place_want
-want_names [] p e = absurd (let z : ◌≡◌ {A = ℕ} 0 1 = cc in let w : ⊥ = omega arith in w)
-want_names (none ∷ l) zero e = absurd (let z : ◌≡◌ {A = ℕ} 0 1 = cc in let w : ⊥ = omega arith in w)
+want_names [] p e = absurd (none_names e)
+want_names (none ∷ l) zero e = absurd (gap_names e)
 want_names (some b ∷ l) zero {a} e = Memᴰ.head (let q : some a ≡ some b = cc in q)
 want_names (none ∷ l) (suc p) e = Memᴰ.tail (want_names l p e)
 want_names (some b ∷ l) (suc p) e = Memᴰ.tail (want_names l p e)
@@ -34,32 +40,15 @@ names_want (some b ∷ l) (Memᴰ.head e) = (0, omega arith, ap look (some_some 
 names_want (some b ∷ l) (Memᴰ.tail m) = let (p, h, e) = names_want l m in (suc p, omega arith, e)
 
 -- an unassigned place of the list
-pub gap_want : (l : List Place) → Memᴰ none l → (p : ℕ) × (p < length l) × (place_want l p ≡ fixed 193)
+pub gap_want : (l : List Place) → Memᴰ none l → (p : ℕ) × (p < length l) × (place_want l p ≡ unassigned)
 unfolding place_want
 gap_want [] m = elim m [ ]
 gap_want (none ∷ l) m = (0, omega arith, refl)
 gap_want (some b ∷ l) (Memᴰ.head e) = none_some e
 gap_want (some b ∷ l) (Memᴰ.tail m) = let (p, h, e) = gap_want l m in (suc p, omega arith, e)
 
--- a number: unassigned, or past the end
-pub want_fixed : (l : List Place) (p : ℕ) {k : ℕ} → place_want l p ≡ fixed k → 193 ≤ k
-unfolding place_want
-want_fixed [] p {k} e = let q : k ≡ 194 = cc in omega arith
-want_fixed (none ∷ l) zero {k} e = let q : k ≡ 193 = cc in omega arith
-want_fixed (some b ∷ l) zero e = absurd (let z : ◌≡◌ {A = ℕ} 0 1 = cc in let w : ⊥ = omega arith in w)
-want_fixed (none ∷ l) (suc p) e = want_fixed l p e
-want_fixed (some b ∷ l) (suc p) e = want_fixed l p e
-
-pub want_fixed_le : (l : List Place) (p : ℕ) {k : ℕ} → place_want l p ≡ fixed k → k ≤ 194
-unfolding place_want
-want_fixed_le [] p {k} e = let q : k ≡ 194 = cc in omega arith
-want_fixed_le (none ∷ l) zero {k} e = let q : k ≡ 193 = cc in omega arith
-want_fixed_le (some b ∷ l) zero e = absurd (let z : ◌≡◌ {A = ℕ} 0 1 = cc in let w : ⊥ = omega arith in w)
-want_fixed_le (none ∷ l) (suc p) e = want_fixed_le l p e
-want_fixed_le (some b ∷ l) (suc p) e = want_fixed_le l p e
-
 abbrev placed : Place → Want
-placed none = fixed 193
+placed none = unassigned
 placed (some a) = look a
 
 want_at : (l : List Place) (p : ℕ) → p < length l → place_want l p ≡ placed (get_or l p none)
@@ -70,7 +59,7 @@ want_at (some a ∷ l) zero h = refl
 want_at (none ∷ l) (suc p) h = want_at l p (omega arith)
 want_at (some a ∷ l) (suc p) h = want_at l p (omega arith)
 
-pub want_past : (l : List Place) (p : ℕ) → length l ≤ p → place_want l p ≡ fixed 194
+pub want_past : (l : List Place) (p : ℕ) → length l ≤ p → place_want l p ≡ no_place
 unfolding place_want
 want_past [] p h = refl
 want_past (q ∷ l) zero h = absurd (let z : ⊥ = omega arith in z)
@@ -80,15 +69,12 @@ want_past (some a ∷ l) (suc p) h = want_past l p (omega arith)
 -- ---- the slots of a list's record
 
 module _ (l : InputList) (q : ℕ) where
-  pub slot_own : q ≡ 0 → look (bytes_of l.tag) ≡ want_of l q
-  slot_own e = rw e
-
   module _ (some-place : q ≢ 0) {xs : List PlaceRecord} (live : xs ≡ take l.count l.places) where
     next : want_of l q ≡ place_want (map place_of xs) (q - 1)
     unfolding rows
     next = let e : q ≡ suc (q - 1) = omega arith in ap (want_of l) e ∙ ap (λ (z : List PlaceRecord). place_want (map place_of z) (q - 1)) (sym live)
 
-    pub slot-past : length xs ≤ q - 1 → fixed 194 ≡ want_of l q
+    pub slot-past : length xs ≤ q - 1 → no_place ≡ want_of l q
     slot-past h = sym (next ∙ want_past (map place_of xs) (q - 1) (omega (arith, length-map xs place_of)))
 
     here : q - 1 < length xs → want_of l q ≡ placed (place_of (get_or xs (q - 1) None))
@@ -99,6 +85,6 @@ module _ (l : InputList) (q : ℕ) where
     unfolding place_of
     slot-named h t e = sym (here h ∙ ap (λ (x : PlaceRecord). placed (place_of x)) (sym e))
 
-    pub slot-gap : q - 1 < length xs → None ≡ get_or xs (q - 1) None → fixed 193 ≡ want_of l q
+    pub slot-gap : q - 1 < length xs → None ≡ get_or xs (q - 1) None → unassigned ≡ want_of l q
     unfolding place_of
     slot-gap h e = sym (here h ∙ ap (λ (x : PlaceRecord). placed (place_of x)) (sym e))

@@ -1,10 +1,10 @@
 -- The numbers that the slots of the lists come to, and what they say of the record. Assumes nothing.
-use Prim.Native.Nat.{ℕ, suc, ◌+◌, ◌*◌, ◌/◌, ◌%◌, ◌≤◌, ◌<◌, min}
+use Prim.Native.Nat.{ℕ, zero, suc, ◌+◌, ◌≤◌, ◌<◌, min}
 use native.Mathlib.Omega.{arith}
 use native.Mathlib.Decide.{ℕ_discrete}
-use mathlib.Core.Path.{◌≡◌, refl, sym, ap, ap₂, subst, ◌∙◌}
+use mathlib.Core.Path.{◌≡◌, refl, sym, ap, subst, ◌∙◌}
 use mathlib.Core.Bool.{true}
-use mathlib.Core.List.{List, [], map}
+use mathlib.Core.List.{List, [], ◌∷◌, map}
 use mathlib.Core.Option
 use mathlib.Core.Option.{Option, none, some}
 use lib.ListN.{take, length, get_or, set, replicate, length-set, length-take, length-replicate, length-map, get_or-map}
@@ -15,6 +15,7 @@ use Rattle.tag.specs.View.{bytes_of}
 use Rattle.std.specs.Prelude.{Some}
 use Rattle.tag.proofs.Laws.Is.{is_true}
 use Rattle.model.specs.declared.implicit_model.ComponentEntry.{ComponentEntry}
+use Rattle.model.specs.declared.implicit_model.InputList.{InputList}
 use Rattle.model.specs.declared.implicit_model.Model.{Model as Record}
 use Rattle.model.specs.Model.{Place, list, inputs}
 use Rattle.model.specs.View.{place_of, rows, component_of, list_of, components_of, lists_of, view, passes}
@@ -24,7 +25,11 @@ use Rattle.model.proofs.Laws.Places.{good_three}
 use Rattle.held.proofs.Laws.Rows.{no_list, rows-length, rows_at}
 use Rattle.held.proofs.Laws.Standing.{Standing, standing, passes-valid}
 use Rattle.model.proofs.Laws.Valid.{good}
-use Rattle.resolving.specs.Slots.{place_want, want_of, node_of, NodeOf, settled, slots, Resolved}
+use Rattle.nodes.specs.declared.Wire.{Wire}
+use Rattle.nodes.specs.declared.Wire.TheVariants.{Past}
+use Rattle.nodes.specs.Nodes.{target, wire_to}
+use Rattle.nodes.proofs.Laws.Wires.{target_to}
+use Rattle.resolving.specs.Slots.{place_want, want_of, node_of, NodeOf, settled, Settled, Resolved, owner_of}
 use Rattle.resolving.proofs.Laws.Node.{position_at, node_hit, listed-node, list_row}
 
 -- ---- a guess
@@ -38,26 +43,35 @@ guess_right m s {xs} e c h d a q =
     let tag : (get_or (components_of m) c (component_of d)).0 ≡ a = ap (λ (z : List ComponentEntry). (get_or (map component_of z) c (component_of d)).0) (sym e) ∙ ap (λ (z : Tag × _). z.0) (get_or-map component_of xs c d) ∙ is_true _ _ q in
     (omega (arith, long, few), node_hit m a c (position_at (component_of d) (components_of m) c a s.once (omega (arith, long)) tag))
 
--- ---- all slots, one after the other
+-- ---- all lists, one after the other
 
-pub record Upto (m : Record) (found : List ℕ) (j : ℕ) : Type 0 where
-  pub found-length : length found ≡ 512
-  pub j_le : j ≤ slots m
-  pub each : (i : ℕ) → i < j → get_or found i 0 ≡ settled m (want_of (get_or m.lists (i / 4) no_list) (i % 4))
+pub settled_four : (m : Record) (l : InputList) (a b c d : Wire) → a ≡ settled m (want_of l 0) → b ≡ settled m (want_of l 1) → c ≡ settled m (want_of l 2) → d ≡ settled m (want_of l 3) → Settled m l (a ∷ b ∷ c ∷ d ∷ [])
+settled_four m l a b c d ea eb ec ed = record { each = at }
+  where
+    at : (q : ℕ) → q < 4 → get_or (a ∷ b ∷ c ∷ d ∷ []) q Past ≡ settled m (want_of l q)
+    at zero h = ea
+    at (suc zero) h = eb
+    at (suc (suc zero)) h = ec
+    at (suc (suc (suc zero))) h = ed
+    at (suc (suc (suc (suc q)))) h = absurd (let z : ⊥ = omega arith in z)
+
+pub record Upto (m : Record) (found : List (List Wire)) (l : ℕ) : Type 0 where
+  pub found-length : length found ≡ 128
+  pub each : (k : ℕ) → k < l → Settled m (get_or m.lists k no_list) (get_or found k [])
 
 module _ (m : Record) where
-  pub upto_start : Upto m (replicate 512 194) 0
-  upto_start = record { found-length = length-replicate {A = ℕ} 512 194; j_le = omega arith; each = λ i h. absurd (let z : ⊥ = omega arith in z) }
+  pub upto_start : (row : List Wire) → Upto m (replicate 128 row) 0
+  upto_start row = record { found-length = length-replicate 128 row; each = λ k h. absurd (let z : ⊥ = omega arith in z) }
 
-  pub upto_more : (found : List ℕ) (j v : ℕ) → Upto m found j → j < slots m → v ≡ settled m (want_of (get_or m.lists (j / 4) no_list) (j % 4)) → Upto m (set found j v) (j + 1)
-  upto_more found j v g h e = record { found-length = length-set found j v ∙ g.found-length; j_le = omega arith; each = λ i lt. by i lt (ℕ_discrete i j) }
+  pub upto_more : (found : List (List Wire)) (l : ℕ) (row : List Wire) → Upto m found l → l < 128 → Settled m (get_or m.lists l no_list) row → Upto m (set found l row) (l + 1)
+  upto_more found l row g h e = record { found-length = length-set found l row ∙ g.found-length; each = λ k lt. by k lt (ℕ_discrete k l) }
     where
-      by : (i : ℕ) → i < j + 1 → Dec (i ≡ j) → get_or (set found j v) i 0 ≡ settled m (want_of (get_or m.lists (i / 4) no_list) (i % 4))
-      by i lt (yes q) = ap (λ (z : ℕ). get_or (set found j v) z 0) q ∙ get_or-set_same found j v 0 (omega (arith, g.found-length)) ∙ e ∙ ap (λ (z : ℕ). settled m (want_of (get_or m.lists (z / 4) no_list) (z % 4))) (sym q)
-      by i lt (no n) = get_or-set_other found j i v 0 n ∙ g.each i (omega arith)
+      by : (k : ℕ) → k < l + 1 → Dec (k ≡ l) → Settled m (get_or m.lists k no_list) (get_or (set found l row) k [])
+      by k lt (yes q) = subst (λ (z : ℕ). Settled m (get_or m.lists z no_list) (get_or (set found l row) z [])) (sym q) (subst (Settled m (get_or m.lists l no_list)) (sym (get_or-set_same found l row [] (omega (arith, g.found-length)))) e)
+      by k lt (no n) = subst (Settled m (get_or m.lists k no_list)) (sym (get_or-set_other found l k row [] n)) (g.each k (omega arith))
 
-  pub upto_end : (found : List ℕ) (j : ℕ) → Upto m found j → slots m ≤ j → Resolved no_list m found
-  upto_end found j g h = record { found-length = g.found-length; each = λ i lt. g.each i (omega arith) }
+  pub upto_end : (found : List (List Wire)) (l : ℕ) → Upto m found l → min m.list_count 128 ≤ l → Resolved no_list m found
+  upto_end found l g h = record { found-length = g.found-length; each = λ k lt. g.each k (omega arith) }
 
 -- ---- what the arrays say of the record
 
@@ -72,7 +86,7 @@ inputs_short m pass a = go (list (view m) a) refl
 pub in_table : {A : Type 0} (table : List A) {xs : List A} (n : ℕ) → xs ≡ take n table → length xs ≡ min n 128 → min n (length table) ≡ min n 128
 in_table table n e f = sym (length-take n table) ∙ sym (ap length e) ∙ f
 
-module _ (m : Record) (pass : passes m ≡ true) (long : min m.list_count (length m.lists) ≡ min m.list_count 128) (found : List ℕ) (r : Resolved no_list m found) where
+module _ (m : Record) (pass : passes m ≡ true) (long : min m.list_count (length m.lists) ≡ min m.list_count 128) (found : List (List Wire)) (r : Resolved no_list m found) where
   s : Standing m
   s = standing m pass
 
@@ -82,17 +96,11 @@ module _ (m : Record) (pass : passes m ≡ true) (long : min m.list_count (lengt
   abbrev pub tag_of : ℕ → Tag
   tag_of l = bytes_of (get_or m.lists l no_list).tag
 
-  slot : (l q : ℕ) → l < count → q < 4 → get_or found (l * 4 + q) 0 ≡ settled m (want_of (get_or m.lists l no_list) q)
-  slot l q h k =
-      let a : (l * 4 + q) / 4 ≡ l = omega arith in
-      let b : (l * 4 + q) % 4 ≡ q = omega arith in
-      r.each (l * 4 + q) (omega arith) ∙ ap₂ (λ (y z : ℕ). settled m (want_of (get_or m.lists y no_list) z)) a b
+  pub owner : (l : ℕ) → l < count → get_or (get_or found l []) 0 Past ≡ wire_to (node_of m (tag_of l))
+  owner l h = (r.each l h).each 0 (omega arith)
 
-  pub owner : (l : ℕ) → l < count → get_or found (l * 4) 0 ≡ node_of m (tag_of l)
-  owner l h = let z : l * 4 ≡ l * 4 + 0 = omega arith in ap (λ (i : ℕ). get_or found i 0) z ∙ slot l 0 h (omega arith)
-
-  pub place : (l p : ℕ) → l < count → p < 3 → get_or found (l * 4 + 1 + p) 0 ≡ settled m (place_want (rows place_of (get_or m.lists l no_list).count (get_or m.lists l no_list).places) p)
-  place l p h k = let z : l * 4 + 1 + p ≡ l * 4 + suc p = omega arith in ap (λ (i : ℕ). get_or found i 0) z ∙ slot l (suc p) h (omega arith)
+  pub place : (l p : ℕ) → l < count → p < 3 → get_or (get_or found l []) (suc p) Past ≡ settled m (place_want (rows place_of (get_or m.lists l no_list).count (get_or m.lists l no_list).places) p)
+  place l p h k = (r.each l h).each (suc p) (omega arith)
 
   pub live : (l : ℕ) → l < count → l < length (lists_of m)
   live l h = omega (arith, rows-length list_of m.lists m.list_count)
@@ -104,8 +112,11 @@ module _ (m : Record) (pass : passes m ≡ true) (long : min m.list_count (lengt
   listed_at l h = position_at (list_of no_list) (lists_of m) l (tag_of l) s.once-lists (live l h) (row_tag l h)
 
   -- a list has a node
-  pub small : (l : ℕ) → l < count → get_or found (l * 4) 0 < 192
-  small l h = subst (λ (z : ℕ). z < 192) (sym (owner l h)) (listed-node m s (tag_of l) l (listed_at l h))
+  pub small : (l : ℕ) → l < count → node_of m (tag_of l) < 192
+  small l h = listed-node m s (tag_of l) l (listed_at l h)
+
+  pub owned_by : (l : ℕ) → l < count → owner_of found l ≡ Some (node_of m (tag_of l))
+  owned_by l h = ap target (owner l h) ∙ target_to (node_of m (tag_of l)) (small l h)
 
   pub inputs_at : (a : Tag) (l : ℕ) → position a 0 (lists_of m) ≡ Some l → inputs (view m) a ≡ rows place_of (get_or m.lists l no_list).count (get_or m.lists l no_list).places
   unfolding view

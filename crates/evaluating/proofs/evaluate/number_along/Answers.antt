@@ -1,13 +1,7 @@
 -- `evaluating::evaluate::number_along` meets its contract: `Laws/Along.antt`. Assumes nothing.
 use Rattle.std.proofs.Common.{arith}
-use mathlib.Core.List.Memᴰ
-use lib.Ieee.{Float, binary64, of_bits}
-use lib.ListN.{length-replicate}
 use Rattle.evaluating.proofs.Laws.Along.{worked-more, worked_end}
 use Rattle.evaluating.proofs.evaluate.number_along.Goals as goal
-
-pub loop-k-init : goal.loop-k-init
-loop-k-init c = record { vals_length = length-replicate {A = Float} 64 (of_bits binary64 0); right = λ i h. absurd (Memᴰ.not-nil h) }
 
 pub loop-k-preserved : goal.loop-k-preserved
 loop-k-preserved c =

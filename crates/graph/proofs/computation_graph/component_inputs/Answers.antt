@@ -4,4 +4,4 @@ use lib.Seq.{take-take}
 use Rattle.graph.proofs.computation_graph.component_inputs.Goals as goal
 
 pub returns : goal.returns
-returns c = record { r_length = c.copy_from_slice.ensures.len; same = ap (take 192) c.copy_from_slice.ensures.after ∙ take-take 192 192 c.args.w.now (omega arith) }
+returns c = record { r_length = c.copy_from_slice.ensures.len; same = ap (take 64) c.copy_from_slice.ensures.after ∙ take-take 64 64 c.args.w.now (omega arith) }

@@ -5,5 +5,5 @@ use Rattle.model.specs.View.{passes}
 use Rattle.resolving.proofs.Laws.Slots.{Upto}
 use Rattle.resolving.proofs.slots.resolve.Given as goal
 
-abbrev pub invariant-loop-j : goal.invariant-loop-j
-invariant-loop-j l = passes l.m ≡ true → Upto l.m l.found l.j
+abbrev pub invariant-loop-l : goal.invariant-loop-l
+invariant-loop-l l = passes l.m ≡ true → Upto l.m l.found l.l

@@ -1,11 +1,8 @@
 -- `resolving::slots::slot_at` meets its contract: `Laws/Places.antt`. Assumes nothing.
 use mathlib.Core.Path.{sym, ◌∙◌}
 use Rattle.std.specs.Prelude.{None}
-use Rattle.resolving.proofs.Laws.Places.{slot_own, slot-past, slot-named, slot-gap}
+use Rattle.resolving.proofs.Laws.Places.{slot-past, slot-named, slot-gap}
 use Rattle.resolving.proofs.slots.slot_at.Goals as goal
-
-pub returns-then-q-eq0 : goal.returns-then-q-eq0
-returns-then-q-eq0 c = slot_own c.args.l.now c.args.q c.if-q-eq0.true
 
 pub returns-in_default : goal.returns-in_default
 returns-in_default c = slot-past c.args.l.now c.args.q c.if-q-eq0.false c.live_places.ensures.rows c.in_default.ensures.lookup.3
