@@ -11,7 +11,7 @@ use adding::add_more;
 use component::model_component::Component;
 use edit::Edited;
 use held::find::{find_component, find_list};
-use input_rows::{inputs_fit, operation_row, too_long};
+use input_rows::{Inputs, inputs_fit, operation_row, too_long};
 use model::implicit_model::{InputList, Model};
 use model::model_error::{Answer, ModelError, Refusal};
 use tag::Tag;
@@ -56,21 +56,12 @@ pub fn add_listed(m: &mut Model, tag: Tag, c: Component, list: InputList, defaul
 }
 
 // The operation added in the model itself, which a refusal leaves as it was. That the tables have their sizes is known of a model by value.
-fn add(
-    m: &mut Model,
-    tag: &[u8],
-    c: Component,
-    given: bool,
-    n: usize,
-    a: &[u8],
-    b: &[u8],
-    d: &[u8],
-) -> Answer
-    ensures { length m.old.components ≡ 64 → length m.old.lists ≡ 128 → Meets (add_operation tag.now c (inputs_of given n a.now b.now d.now)) m.old (record { answer = result; model = m.new }) }
+fn add(m: &mut Model, tag: &[u8], c: Component, inputs: Option<Inputs>) -> Answer
+    ensures { length m.old.components ≡ 64 → length m.old.lists ≡ 128 → Meets (add_operation tag.now c (inputs_of inputs.entry)) m.old (record { answer = result; model = m.new }) }
 {
     validity::check(m)?;
     let tag = Tag::try_from(tag)?;
-    if too_long(given, n, a, b, d) {
+    if too_long(inputs) {
         return Err(Refusal::plain(ModelError::TagTooLong));
     }
     if !c.is_operation() {
@@ -80,26 +71,17 @@ fn add(
         return Err(Refusal::of(ModelError::DuplicateTag, tag));
     }
     let k = c.input_count();
-    if !inputs_fit(given, n, k) {
+    if !inputs_fit(inputs, k) {
         return Err(Refusal::of(ModelError::IncorrectInputCount, tag));
     }
-    add_listed(m, tag, c, operation_row(tag, given, k, a, b, d), tag)
+    add_listed(m, tag, c, operation_row(tag, inputs, k), tag)
 }
 
-// `inputs` are none, or n tags of which the first three at most are looked at.
-pub fn add_operation(
-    m: Model,
-    tag: &[u8],
-    c: Component,
-    given: bool,
-    n: usize,
-    a: &[u8],
-    b: &[u8],
-    d: &[u8],
-) -> Edited
-    ensures { Meets (add_operation tag.now c (inputs_of given n a.now b.now d.now)) m result }
+// Of the tags that are given the first three at most are looked at.
+pub fn add_operation(m: Model, tag: &[u8], c: Component, inputs: Option<Inputs>) -> Edited
+    ensures { Meets (add_operation tag.now c (inputs_of inputs.entry)) m result }
 {
     let mut model = m;
-    let answer = add(&mut model, tag, c, given, n, a, b, d);
+    let answer = add(&mut model, tag, c, inputs);
     Edited { answer, model }
 }

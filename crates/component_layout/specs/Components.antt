@@ -7,6 +7,7 @@ use Rattle.component.specs.declared.model_component.Component.{Component}
 use Rattle.component.specs.declared.model_component.Component.TheVariants.{Constant, Sphere, Torus, Multiply, Add, Subtract, Divide, Lerp, VariableLerp, Remap, BooleanUnion, BooleanIntersection, BooleanDifference, Offset, Thickness}
 use Rattle.component.specs.declared.parameter.Data.{Data}
 use Rattle.component.specs.declared.parameter.Data.TheVariants.{Value, Vec3 as Vector, Boolean}
+use Rattle.component_layout.specs.declared.component_words.DataWords.{DataWords}
 
 -- the components by kind, 0 to 14, whose numbers are a, b, c, d, e in their sequence
 abbrev pub kinds : Float → Float → Float → Float → Float → List (Option Component)
@@ -50,8 +51,8 @@ settings a b c =
     ∷ get_or booleans a none
     ∷ []
 
-unfoldable pub data_from : ℕ → ℕ → ℕ → ℕ → Option Data
-data_from kind a b c = get_or (settings a b c) kind none
+unfoldable pub data_from : DataWords → Option Data
+data_from w = get_or (settings w.a w.b w.c) w.kind none
 
 -- what the code found
 abbrev pub component_read : Found Component → Option Component

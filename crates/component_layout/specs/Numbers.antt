@@ -12,7 +12,8 @@ use Rattle.component_layout.specs.Components.{component_from}
 abbrev pub unused : Float
 unused = of_bits binary64 0
 
-abbrev pub five : ℕ → Float → Float → Float → Float → Float → Numbered Float
+-- a kind and five numbers, or words
+abbrev pub five : {A : Type 0} → ℕ → A → A → A → A → A → Numbered A
 five kind a b c d e = record { kind = kind; a = a; b = b; c = c; d = d; e = e }
 
 -- a kind with four, one or no numbers

@@ -55,15 +55,24 @@ pub fn component_from(w: ComponentWords) -> Option<Component>
     })
 }
 
-// What a parameter is set to, from its kind and words.
-// Kept: a number for the kind, and four words, since the C interface and the layout of bytes have them.
+// What a parameter is set to: a kind and three words, of which those that the kind does not use are not looked at.
+// Kept: a number for the kind, and three words, since the C interface and the layout of bytes have them.
+#[derive(Clone, Copy)]
+pub struct DataWords {
+    pub kind: u64,
+    pub a: u64,
+    pub b: u64,
+    pub c: u64,
+}
+
+// What a parameter is set to, from its words.
 #[tactic(auto, unfolding(crate::specs::Components::data_from))]
-pub fn data_from(kind: u64, a: u64, b: u64, c: u64) -> Option<Data>
-    ensures { data_read result ≡ data_from kind a b c }
+pub fn data_from(w: DataWords) -> Option<Data>
+    ensures { data_read result ≡ data_from w }
 {
-    match (kind, a) {
-        (0, _) => Some(Data::Value(float_of(a))),
-        (1, _) => Some(Data::Vec3(Vec3::new(float_of(a), float_of(b), float_of(c)))),
+    match (w.kind, w.a) {
+        (0, _) => Some(Data::Value(float_of(w.a))),
+        (1, _) => Some(Data::Vec3(Vec3::new(float_of(w.a), float_of(w.b), float_of(w.c)))),
         (2, 0) => Some(Data::Boolean(false)),
         (2, 1) => Some(Data::Boolean(true)),
         _ => None,

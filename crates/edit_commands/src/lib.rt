@@ -3,22 +3,23 @@
 
 use component::model_component::Component;
 use edit::Edited;
+use input_rows::Inputs;
 use model::implicit_model::Model;
-use protocol::arguments::Inputs;
 use protocol::command::Change;
 
 fn add_operation(
     model: &Model,
     tag: &[u8],
     operation: Component,
-    inputs: &Option<Inputs>,
+    inputs: &Option<protocol::arguments::Inputs>,
 ) -> Edited {
-    let Some(inputs) = inputs else {
-        return adding_operation::add_operation(*model, tag, operation, false, 0, b"", b"", b"");
-    };
-    let [a, b, c] = &inputs.tags;
-    let (a, b, c) = (a.as_slice(), b.as_slice(), c.as_slice());
-    adding_operation::add_operation(*model, tag, operation, true, inputs.count, a, b, c)
+    let inputs = inputs.as_ref().map(|given| Inputs {
+        count: given.count,
+        first: given.tags[0].as_slice(),
+        second: given.tags[1].as_slice(),
+        third: given.tags[2].as_slice(),
+    });
+    adding_operation::add_operation(*model, tag, operation, inputs)
 }
 
 // The model after an edit, with its answer.

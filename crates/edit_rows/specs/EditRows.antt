@@ -1,11 +1,12 @@
 -- A list of edits in bytes: rows of 256 bytes, each an edit (docs/LAYOUT.md, "A list of edits"). Definitions only.
-use Rattle.std.specs.Prelude.{ℕ, zero, suc, ◌+◌, ◌-◌, ◌/◌, ◌%◌, Bool, ◌&&◌, cond, List, [], ◌∷◌, leb, eqb, length, get_or, take, replicate}
+use Rattle.std.specs.Prelude.{ℕ, zero, suc, ◌+◌, ◌/◌, ◌%◌, Bool, ◌&&◌, cond, List, [], ◌∷◌, leb, eqb, length, get_or}
 use Rattle.std.proofs.Math.Option.{Option, none, some, map}
-use Rattle.tag.specs.Tags.{Tag, empty}
+use Rattle.tag.specs.Tags.{Tag}
 use Rattle.component.specs.declared.model_component.Component.{Component}
 use Rattle.component.specs.declared.parameter.Data.{Data}
 use Rattle.model.specs.Edit.{Edit, add_operation, add_constant, add_function, add_component, add_input, remove_input, remove_component, rename_component, set_parameter}
 use Rattle.layout.specs.Words.{word, text}
+use Rattle.input_rows.specs.Inputs.{tags_given}
 use Rattle.component_layout.specs.Components.{number, component_from, data_from}
 
 -- ---- the row at byte `at` of s
@@ -20,11 +21,7 @@ component_at s at = component_from (word s (at + 8)) (word s (at + 16)) (word s 
 
 -- the data: word 1 is its kind, words 2 to 4 are its numbers
 unfoldable pub data_at : List ℕ → ℕ → Option Data
-data_at s at = data_from (word s (at + 8)) (word s (at + 16)) (word s (at + 24)) (word s (at + 32))
-
--- n tags, of which the first three are a, b, c; no others are looked at
-unfoldable pub tags_given : ℕ → Tag → Tag → Tag → List Tag
-tags_given n a b c = take n (a ∷ b ∷ c ∷ replicate (n - 3) empty)
+data_at s at = data_from (record { kind = word s (at + 8); a = word s (at + 16); b = word s (at + 24); c = word s (at + 32) })
 
 -- the inputs given: none where the word is 0, else one fewer than it says
 unfoldable pub given : ℕ → Tag → Tag → Tag → Option (List Tag)

@@ -7,7 +7,7 @@ ghost use Rattle.edit_rows.specs.EditRows.{texts_fit, component_at, data_at, edi
 use component::model_component::Component;
 use component::parameter::Data;
 use component_layout::component_numbers::ComponentWords;
-use component_layout::component_words::{component_from, data_from};
+use component_layout::component_words::{DataWords, component_from, data_from};
 use layout::words::{read_word, word_past};
 
 // No string of the row is longer than its 40 bytes.
@@ -41,11 +41,12 @@ pub fn component_at(s: &[u8], at: usize) -> Option<Component>
 pub fn data_at(s: &[u8], at: usize) -> Option<Data>
     ensures { data_read result ≡ data_at s.now at }
 {
-    let kind = word_past(s, at, 8);
-    let a = word_past(s, at, 16);
-    let b = word_past(s, at, 24);
-    let c = word_past(s, at, 32);
-    data_from(kind, a, b, c)
+    data_from(DataWords {
+        kind: word_past(s, at, 8),
+        a: word_past(s, at, 16),
+        b: word_past(s, at, 24),
+        c: word_past(s, at, 32),
+    })
 }
 
 // Whether the row is an edit.

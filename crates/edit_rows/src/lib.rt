@@ -2,3 +2,4 @@
 #![tactic(auto)]
 
 pub mod edit_row;
+pub mod inputs_word;

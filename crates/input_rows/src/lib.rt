@@ -1,28 +1,71 @@
 // The inputs that `add_operation` is handed, and the list made of them: what an adding shares, whether it is made in a record or in bytes.
 #![tactic(auto)]
 
-ghost use Rattle.std.specs.Prelude.{◌≡◌, true, ◌≤◌, replicate, take, [], ◌∷◌, map};
+ghost use Rattle.std.specs.Prelude.{◌≡◌, ◌≤◌, replicate, map, IfSome};
 ghost use Rattle.std.proofs.Math.Option.{none, some};
 ghost use Rattle.tag.specs.Tags.{overlong};
 ghost use Rattle.model.specs.Table.{any};
 ghost use Rattle.model.specs.Edit.{looked_at};
-ghost use Rattle.input_rows.specs.Inputs.{inputs_of, fitting, RowOf, Short, asked};
+ghost use Rattle.input_rows.specs.Inputs.{tags_of, named, inputs_of, fitting, RowOf, Short, asked};
 
 use model::implicit_model::InputList;
 use tag::{Tag, tag_of};
 
+// So many tags, of which the first three at most are looked at; those that stand beyond the count are not.
+#[derive(Clone, Copy)]
+pub struct Inputs<'a> {
+    pub count: usize,
+    pub first: &'a [u8],
+    pub second: &'a [u8],
+    pub third: &'a [u8],
+}
+
+impl<'a> Inputs<'a> {
+    // Whether a tag that is looked at is longer than 32 bytes.
+    fn too_long(self) -> bool
+        ensures { result ≡ any overlong (looked_at (some (tags_of self.entry))) }
+    {
+        [self.first, self.second, self.third]
+            .iter()
+            .take(self.count)
+            .any(|tag| 32 < tag.len())
+    }
+
+    // A list of the first k of the tags.
+    fn row(self, t: Tag, k: usize) -> InputList
+        ensures { Short k self.entry → RowOf t (map some (named k self.entry)) result }
+    {
+        InputList {
+            tag: t,
+            count: k,
+            places: [
+                Some(tag_of(self.first)),
+                Some(tag_of(self.second)),
+                Some(tag_of(self.third)),
+            ],
+        }
+    }
+}
+
 // Whether a tag that is given and looked at is longer than 32 bytes.
-pub fn too_long(given: bool, n: usize, a: &[u8], b: &[u8], d: &[u8]) -> bool
-    ensures { result ≡ any overlong (looked_at (inputs_of given n a.now b.now d.now)) }
+#[tactic(auto, unfolding(crate::specs::Inputs::inputs_of))]
+pub fn too_long(inputs: Option<Inputs>) -> bool
+    ensures { result ≡ any overlong (looked_at (inputs_of inputs.entry)) }
 {
-    given && [a, b, d].iter().take(n).any(|tag| 32 < tag.len())
+    match inputs {
+        Some(given) => given.too_long(),
+        None => false,
+    }
 }
 
 // Whether as many inputs as the operation takes are given, or none.
-pub fn inputs_fit(given: bool, n: usize, k: usize) -> bool
-    ensures { result ≡ fitting given n k }
+pub fn inputs_fit(inputs: Option<Inputs>, k: usize) -> bool
+    ensures { result ≡ fitting inputs.entry k }
 {
-    !given || n == k
+    match inputs {
+        Some(given) => given.count == k,
+        None => true,
+    }
 }
 
 // A list of k unassigned places, three at most.
@@ -36,24 +79,12 @@ pub fn unassigned_row(t: Tag, k: usize) -> InputList
     }
 }
 
-// A list of the first k of three tags.
-fn given_row(t: Tag, k: usize, a: &[u8], b: &[u8], d: &[u8]) -> InputList
-    ensures { Short k a.now b.now d.now → RowOf t (map some (take k (a.now ∷ b.now ∷ d.now ∷ []))) result }
-{
-    InputList {
-        tag: t,
-        count: k,
-        places: [Some(tag_of(a)), Some(tag_of(b)), Some(tag_of(d))],
-    }
-}
-
 // The list of a new operation: the inputs given, or unassigned places. It is right where they are short and three at most.
-pub fn operation_row(t: Tag, given: bool, k: usize, a: &[u8], b: &[u8], d: &[u8]) -> InputList
-    ensures { k ≤ 3 → (given ≡ true → Short k a.now b.now d.now) → RowOf t (asked given k a.now b.now d.now) result }
+pub fn operation_row(t: Tag, inputs: Option<Inputs>, k: usize) -> InputList
+    ensures { k ≤ 3 → IfSome inputs.entry (Short k) → RowOf t (asked inputs.entry k) result }
 {
-    if given {
-        given_row(t, k, a, b, d)
-    } else {
-        unassigned_row(t, k)
+    match inputs {
+        Some(given) => given.row(t, k),
+        None => unassigned_row(t, k),
     }
 }

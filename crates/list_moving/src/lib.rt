@@ -5,7 +5,6 @@ ghost use Rattle.std.specs.Prelude.{◌≡◌, ◌≤◌};
 ghost use Rattle.tag.specs.View.{bytes_of};
 ghost use Rattle.list_moving.specs.Moving.{ListAt, without_list, Movable, ListMoved};
 
-use edit::rows::with_list;
 use held::find::find_list;
 use model::implicit_model::{InputList, Model};
 use tag::Tag;
@@ -36,8 +35,11 @@ pub fn list_moved(m: Model, t: Tag, u: Tag) -> Model
         tag: u,
         ..m.lists[i]
     };
-    match find_list(&m, u) {
-        Some(j) => without_list(with_list(m, j, list), i),
-        None => with_list(m, i, list),
-    }
+    let mut n = m;
+    let Some(j) = find_list(&m, u) else {
+        n.lists[i] = list;
+        return n;
+    };
+    n.lists[j] = list;
+    without_list(n, i)
 }

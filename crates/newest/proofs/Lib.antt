@@ -1,3 +1,2 @@
--- `Theorems` is for other crates and for docs/PROOFS.md; `Laws` is what the functions' proofs cite.
+-- `Theorems` is for other crates and for docs/PROOFS.md.
 pub mod Theorems
-pub mod Laws

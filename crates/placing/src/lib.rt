@@ -7,7 +7,6 @@ ghost use Rattle.edit.specs.Ends.{Ends};
 ghost use Rattle.edit.specs.Rows.{with_list};
 ghost use Rattle.placing.specs.Placing.{placed_at};
 
-use edit::rows::with_list;
 use model::implicit_model::{InputList, Model, Place};
 use model::model_error::Answer;
 
@@ -26,6 +25,9 @@ fn placed(l: InputList, index: usize, place: Place) -> InputList
 pub fn place(m: &mut Model, row: usize, l: InputList, index: usize, to: Place) -> Answer
     ensures { Ends done (with_list m.old row (placed_at l index to)) (record { answer = result; model = m.new }) }
 {
-    *m = with_list(*m, row, placed(l, index, to));
+    let lists: &mut [InputList] = &mut m.lists;
+    if row < lists.len() {
+        lists[row] = placed(l, index, to);
+    }
     Ok(None)
 }

@@ -7,7 +7,6 @@ ghost use Rattle.edit.specs.Meets.{Meets};
 ghost use Rattle.renaming.specs.Moving.{TagMoved};
 
 use edit::Edited;
-use edit::rows::with_entry;
 use held::find::find_component;
 use list_moving::list_moved;
 use model::implicit_model::{ComponentEntry, Model};
@@ -24,7 +23,8 @@ fn tag_moved(m: Model, i: usize, t: Tag, u: Tag) -> Model
         tag: u,
         ..m.components[i]
     };
-    let moved = with_entry(list_moved(m, t, u), i, entry);
+    let mut moved = list_moved(m, t, u);
+    moved.components[i] = entry;
     places_swapped(moved, t, Some(u))
 }
 

@@ -1,5 +1,5 @@
 -- What is promised of one row of a list of edits. Definitions only.
-use Rattle.std.specs.Prelude.{ℕ, ◌≡◌, List}
+use Rattle.std.specs.Prelude.{ℕ, ◌≡◌, List, Option as Found, Some, None}
 use Rattle.std.proofs.Math.Option.{some}
 use Rattle.tag.specs.Tags.{Tag}
 use Rattle.model.specs.declared.implicit_model.Model.{Model as Record}
@@ -14,6 +14,15 @@ use Rattle.newest.specs.Carried.{carried}
 pub record Runs (s : List ℕ) (at : ℕ) (m : Record) (r : Edited) : Type 0 where
   pub meets : (e : Edit) → edit_at s at ≡ some e → Meets e m r
   pub stays : (e : Edit) → edit_at s at ≡ some e → (a : Answer) (t : Tag) → carried e a t ≡ t
+
+-- the row is no edit
+abbrev pub NoEdit : List ℕ → ℕ → Type 0
+NoEdit s at = (e : Edit) → edit_at s at ≡ some e → ⊥
+
+-- what the code made of a row: its edit, where it is one; None only where it is none
+abbrev pub Ran : List ℕ → ℕ → Record → Found Edited → Type 0
+Ran s at m (Some r) = Runs s at m r
+Ran s at m None = NoEdit s at
 
 -- one edit more: m and the target t became n and u
 pub record Step (e : Edit) (m : Record) (t : Tag) (n : Record) (u : Tag) : Type 0 where

@@ -3,14 +3,12 @@
 
 mod list;
 
-ghost use Rattle.evaluating.specs.Evaluate.{EvaluatesAs, point_of};
 ghost use Rattle.edit_rows.specs.EditRows.{edits_of};
-ghost use Rattle.newest.specs.Place.{tag_at};
 ghost use Rattle.steady.specs.Steadied.{After};
 
 use edit_rows::edit_row::are_edits;
 use evaluating::evaluate::evaluate_at;
-use layout::words::read_text;
+use geometry::vec3f::Vec3;
 use model::implicit_model::Model;
 use model::model_error::{ModelError, Refusal};
 
@@ -21,28 +19,10 @@ pub struct AfterList {
     pub model: Model,
 }
 
-// The form asked, under the target's newest tag.
-fn ask(
-    m: &Model,
-    s: &[u8],
-    target: &[u8],
-    place: usize,
-    x: f64,
-    y: f64,
-    z: f64,
-) -> Result<u64, Refusal>
-    ensures { EvaluatesAs m.now (tag_at target.now s.now place) (point_of x y z) result }
-{
-    if place == 0 {
-        return evaluate_at(m, target, x, y, z);
-    }
-    evaluate_at(m, read_text(s, place), x, y, z)
-}
-
 // The edits run one after the other, each on the model that the one before left, and the form asked after the last, the target under its newest tag.
 // Bytes that are no list of edits are refused with 7, and change nothing.
-pub fn evaluate_after(m: Model, edits: &[u8], target: &[u8], x: f64, y: f64, z: f64) -> AfterList
-    ensures { After (edits_of edits.now) m target.now (point_of x y z) result }
+pub fn evaluate_after(m: Model, edits: &[u8], target: &[u8], p: Vec3) -> AfterList
+    ensures { After (edits_of edits.now) m target.now p result }
 {
     if !are_edits(edits) {
         return AfterList {
@@ -51,7 +31,7 @@ pub fn evaluate_after(m: Model, edits: &[u8], target: &[u8], x: f64, y: f64, z: 
         };
     }
     let run = list::run_list(m, edits, target);
-    let reply = ask(&run.model, edits, target, run.place, x, y, z);
+    let reply = evaluate_at(&run.model, run.newest, p);
     AfterList {
         reply,
         model: run.model,

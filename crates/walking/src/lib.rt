@@ -42,6 +42,7 @@ impl Line {
     }
 
     // The tag's list joins the line, if there is one and it has not been in line. A tag without a list has no inputs, and need not wait.
+    #[tactic(auto, using(crate::proofs::Laws::Sound::room))]
     fn join(&mut self, m: &Model, t: &Tag)
         requires { Sound self.old }
         ensures sound { Sound self.new }
@@ -60,6 +61,7 @@ impl Line {
 }
 
 // From one row, to the row of the target. A list is scanned once, so that the walk ends on every model.
+#[tactic(auto, using(crate::proofs::Laws::Line::counted_few))]
 fn walk(m: &Model, target: usize, from: usize) -> Result<(), Blocked>
     requires { from < 128 }
     ensures { Walkable m.now target from → Walks m.now target from result }
@@ -67,6 +69,7 @@ fn walk(m: &Model, target: usize, from: usize) -> Result<(), Blocked>
     let mut line = Line::start(from);
     let mut end = Ok(());
     let mut head = 0;
+    // Kept: a form that the specification names, a walk left by its label; and the line grows while it is walked.
     'walk: while head < line.tail {
         let row = line.rows[head];
         if row == target {

@@ -9,24 +9,30 @@ use Rattle.component.specs.declared.model_component.Component.TheVariants.{Const
 use Rattle.component.specs.declared.parameter.Data.{Data}
 use Rattle.component.specs.declared.parameter.Data.TheVariants.{Boolean}
 use Rattle.model.specs.Edit.{Edit, add_function, add_component}
+use Rattle.component_layout.specs.declared.component_numbers.Numbered.{Numbered}
+use Rattle.component_layout.specs.declared.component_words.DataWords.{DataWords}
 use Rattle.component_layout.specs.Components.{component_from, data_from}
 
+-- the component of these words
+abbrev pub component_in : Numbered ℕ → Option Component
+component_in w = component_from w.kind w.a w.b w.c w.d w.e
+
 -- the component of `add_function`: no kind is Multiply, which is no function
-unfoldable pub function_of : ℕ → ℕ → ℕ → ℕ → ℕ → ℕ → Component
-function_of kind a b c d e = get_or (component_from kind a b c d e) Multiply
+unfoldable pub function_of : Numbered ℕ → Component
+function_of w = get_or (component_in w) Multiply
 
 -- the component of `add_operation`: no kind is a constant, which is no operation
-unfoldable pub operation_of : ℕ → ℕ → ℕ → ℕ → ℕ → ℕ → Component
-operation_of kind a b c d e = get_or (component_from kind a b c d e) (Constant (of_bits binary64 0))
+unfoldable pub operation_of : Numbered ℕ → Component
+operation_of w = get_or (component_in w) (Constant (of_bits binary64 0))
 
 -- what a parameter is set to: no kind is a boolean, which no parameter takes
-unfoldable pub data_of : ℕ → ℕ → ℕ → ℕ → Data
-data_of kind a b c = get_or (data_from kind a b c) (Boolean false)
+unfoldable pub data_of : DataWords → Data
+data_of w = get_or (data_from w) (Boolean false)
 
 -- `add_component` takes every component, so that no kind is an `add_function` of what is no function
 abbrev pub added_as : Tag → Option Component → Edit
 added_as t none = add_function t Multiply
 added_as t (some c) = add_component t c
 
-unfoldable pub component_edit : Tag → ℕ → ℕ → ℕ → ℕ → ℕ → ℕ → Edit
-component_edit t kind a b c d e = added_as t (component_from kind a b c d e)
+unfoldable pub component_edit : Tag → Numbered ℕ → Edit
+component_edit t w = added_as t (component_in w)

@@ -1,10 +1,11 @@
 -- `adding::add_function` meets its contract. Assumes nothing.
 use mathlib.Core.Path.{◌≡◌}
 use lib.ListN.{length}
+use Rattle.std.proofs.Common.{rules}
 use Rattle.adding.proofs.Laws.Plain.{function_is}
 use Rattle.adding.proofs.add_function.Goals as goal
 
 pub returns : goal.returns
 returns c =
-    let size : length c.args.m.components ≡ 64 = c.well_formed.0.1.1.0.1.0.1 in
+    let size : length c.args.m.components ≡ 64 = search rules in
     c.add_plain-answer.ensures size _ (function_is _ _ _ _ c.is_function-fits.ensures)

@@ -14,7 +14,7 @@ use Rattle.component.specs.declared.model_component.Component.{Component}
 use Rattle.component.proofs.Theorems.Count.{count_few}
 use Rattle.model.specs.declared.implicit_model.InputList.{InputList}
 use Rattle.model.specs.declared.implicit_model.Model.{Model as Record}
-use Rattle.std.specs.Prelude.{Option, Some, None, is_some}
+use Rattle.std.specs.Prelude.{Option, Option as Given, Some, None, is_some}
 use Rattle.model.specs.Table.{Table, any, held}
 use Rattle.model.specs.Model.{Place}
 use Rattle.model.specs.Edit.{add_operation, edit, add_op, looked_at, new_places}
@@ -26,6 +26,7 @@ use Rattle.edit.specs.Meets.{Meets}
 use Rattle.edit.specs.Ends.{Refused}
 use Rattle.edit.proofs.Laws.Step.{Step, skip, stop, meets_on}
 use Rattle.edit.proofs.Laws.Tests.{carrying, taken, free, missing, sought_by}
+use Rattle.input_rows.specs.declared.Inputs.{Inputs}
 use Rattle.input_rows.specs.Inputs.{inputs_of, fitting, asked, RowOf}
 use Rattle.input_rows.proofs.Laws.Inputs.{count_is, asked_are}
 use Rattle.adding_operation.specs.Listed.{Listed}
@@ -43,53 +44,53 @@ pub not_some : (f : Option ℕ) → is_some f ≡ false → f ≡ None
 not_some None h = refl
 not_some (Some i) h = absurd (true≢false h)
 
-module _ (m : Record) (t : Tag) (c : Component) (given : Bool) (n : ℕ) (a b d : Tag) (r : Edited) (v : passes m ≡ true) where
-  on : Step (add_op (view m) t c (inputs_of given n a b d)) m r → Meets (add_operation t c (inputs_of given n a b d)) m r
+module _ (m : Record) (t : Tag) (c : Component) (o : Given Inputs) (r : Edited) (v : passes m ≡ true) where
+  on : Step (add_op (view m) t c (inputs_of o)) m r → Meets (add_operation t c (inputs_of o)) m r
   unfolding edit
   on s = meets_on v s
 
-  pub op_1 : overlong t ≡ true → Refused m 1 [] 0 r → Meets (add_operation t c (inputs_of given n a b d)) m r
+  pub op_1 : overlong t ≡ true → Refused m 1 [] 0 r → Meets (add_operation t c (inputs_of o)) m r
   unfolding add_op
-  op_1 h z = on (stop (overlong t || any overlong (looked_at (inputs_of given n a b d))) 1 empty 0 _ (ap (λ (x : Bool). x || any overlong (looked_at (inputs_of given n a b d))) h) z)
+  op_1 h z = on (stop (overlong t || any overlong (looked_at (inputs_of o))) 1 empty 0 _ (ap (λ (x : Bool). x || any overlong (looked_at (inputs_of o))) h) z)
 
   module _ (st : overlong t ≡ false) where
-    either : (x : Bool) → any overlong (looked_at (inputs_of given n a b d)) ≡ x → (overlong t || any overlong (looked_at (inputs_of given n a b d))) ≡ x
-    either x e = ap (λ (y : Bool). y || any overlong (looked_at (inputs_of given n a b d))) st ∙ e
+    either : (x : Bool) → any overlong (looked_at (inputs_of o)) ≡ x → (overlong t || any overlong (looked_at (inputs_of o))) ≡ x
+    either x e = ap (λ (y : Bool). y || any overlong (looked_at (inputs_of o))) st ∙ e
 
-    pub op_1_inputs : true ≡ any overlong (looked_at (inputs_of given n a b d)) → Refused m 1 [] 0 r → Meets (add_operation t c (inputs_of given n a b d)) m r
+    pub op_1_inputs : true ≡ any overlong (looked_at (inputs_of o)) → Refused m 1 [] 0 r → Meets (add_operation t c (inputs_of o)) m r
     unfolding add_op
-    op_1_inputs h z = on (stop (overlong t || any overlong (looked_at (inputs_of given n a b d))) 1 empty 0 _ (either true (sym h)) z)
+    op_1_inputs h z = on (stop (overlong t || any overlong (looked_at (inputs_of o))) 1 empty 0 _ (either true (sym h)) z)
 
-    module _ (sh : false ≡ any overlong (looked_at (inputs_of given n a b d))) (u : Label) (lt : Labelled t u) where
-      pub op_4 : is_operation c ≡ false → Refused m 4 (bytes_of u) 0 r → Meets (add_operation t c (inputs_of given n a b d)) m r
+    module _ (sh : false ≡ any overlong (looked_at (inputs_of o))) (u : Label) (lt : Labelled t u) where
+      pub op_4 : is_operation c ≡ false → Refused m 4 (bytes_of u) 0 r → Meets (add_operation t c (inputs_of o)) m r
       unfolding add_op
       op_4 h z =
-          on (skip (overlong t || any overlong (looked_at (inputs_of given n a b d))) 1 empty 0 (either false (sym sh)) (stop (not (is_operation c)) 4 t 0 _ (ap not h) (carrying lt z)))
+          on (skip (overlong t || any overlong (looked_at (inputs_of o))) 1 empty 0 (either false (sym sh)) (stop (not (is_operation c)) 4 t 0 _ (ap not h) (carrying lt z)))
 
       module _ (ok : is_operation c ≡ true) (f : Option ℕ) (p : Sought (components_of m) 64 (bytes_of u) f) where
-        pub op_11 : is_some f ≡ true → Refused m 11 (bytes_of u) 0 r → Meets (add_operation t c (inputs_of given n a b d)) m r
+        pub op_11 : is_some f ≡ true → Refused m 11 (bytes_of u) 0 r → Meets (add_operation t c (inputs_of o)) m r
         unfolding add_op view
         op_11 e z =
-            on (skip (overlong t || any overlong (looked_at (inputs_of given n a b d))) 1 empty 0 (either false (sym sh)) (skip (not (is_operation c)) 4 t 0 (ap not ok)
+            on (skip (overlong t || any overlong (looked_at (inputs_of o))) 1 empty 0 (either false (sym sh)) (skip (not (is_operation c)) 4 t 0 (ap not ok)
             (stop (held t (components_of m)) 11 t 0 _ (found_held (sought_by lt p) e) (carrying lt z))))
 
         module _ (q : is_some f ≡ false) where
           e : f ≡ None
           e = not_some f q
 
-          pub op_2 : fitting given n (input_count c) ≡ false → Refused m 2 (bytes_of u) 0 r → Meets (add_operation t c (inputs_of given n a b d)) m r
+          pub op_2 : fitting o (input_count c) ≡ false → Refused m 2 (bytes_of u) 0 r → Meets (add_operation t c (inputs_of o)) m r
           unfolding add_op view
           op_2 h z =
-              on (skip (overlong t || any overlong (looked_at (inputs_of given n a b d))) 1 empty 0 (either false (sym sh)) (skip (not (is_operation c)) 4 t 0 (ap not ok)
+              on (skip (overlong t || any overlong (looked_at (inputs_of o))) 1 empty 0 (either false (sym sh)) (skip (not (is_operation c)) 4 t 0 (ap not ok)
               (skip (held t (components_of m)) 11 t 0 (free (sought_by lt p) e)
-              (stop (not (eqb (length (new_places c (inputs_of given n a b d))) (input_count c))) 2 t 0 _ (ap not (count_is given n c a b d ∙ h)) (carrying lt z)))))
+              (stop (not (eqb (length (new_places c (inputs_of o))) (input_count c))) 2 t 0 _ (ap not (count_is o c ∙ h)) (carrying lt z)))))
 
-          pub op_listed : fitting given n (input_count c) ≡ true → length m.components ≡ 64 → length m.lists ≡ 128
-              → (row : InputList) → RowOf u (asked given (input_count c) a b d) row → Listed m u c row u r → Meets (add_operation t c (inputs_of given n a b d)) m r
+          pub op_listed : fitting o (input_count c) ≡ true → length m.components ≡ 64 → length m.lists ≡ 128
+              → (row : InputList) → RowOf u (asked o (input_count c)) row → Listed m u c row u r → Meets (add_operation t c (inputs_of o)) m r
           unfolding add_op view
           op_listed fit size lsize row ro z =
-              on (skip (overlong t || any overlong (looked_at (inputs_of given n a b d))) 1 empty 0 (either false (sym sh)) (skip (not (is_operation c)) 4 t 0 (ap not ok)
+              on (skip (overlong t || any overlong (looked_at (inputs_of o))) 1 empty 0 (either false (sym sh)) (skip (not (is_operation c)) 4 t 0 (ap not ok)
               (skip (held t (components_of m)) 11 t 0 (free (sought_by lt p) e)
-              (skip (not (eqb (length (new_places c (inputs_of given n a b d))) (input_count c))) 2 t 0 (ap not (count_is given n c a b d ∙ fit))
-              (listed m (standing m v) size lsize lt lt c (missing (sought_by lt p) e) (new_places c (inputs_of given n a b d)) row
-              (subst (λ (ps : List Place). RowOf u ps row) (asked_are given n c a b d (few_inputs c) fit) ro) z)))))
+              (skip (not (eqb (length (new_places c (inputs_of o))) (input_count c))) 2 t 0 (ap not (count_is o c ∙ fit))
+              (listed m (standing m v) size lsize lt lt c (missing (sought_by lt p) e) (new_places c (inputs_of o)) row
+              (subst (λ (ps : List Place). RowOf u ps row) (asked_are o c (few_inputs c) fit) ro) z)))))

@@ -13,38 +13,38 @@ returns-in_err-check c size lsize = meets_7 c.in_err-check.ensures.0 (handed_on 
 
 pub returns-in_err-tag : goal.returns-in_err-tag
 returns-in_err-tag c size lsize =
-    let a = c.args in op_1 a.m.now a.tag.now a.c a.given a.n a.a.now a.b.now a.d.now _ c.in_ok-check.ensures c.in_err-tag.ensures (becomes c.from_residual-in_err-tag.ensures.1)
+    let a = c.args in op_1 a.m.now a.tag.now a.c a.inputs _ c.in_ok-check.ensures c.in_err-tag.ensures (becomes c.from_residual-in_err-tag.ensures.1)
 
 pub returns-then-too_long : goal.returns-then-too_long
 returns-then-too_long c size lsize =
     let a = c.args in
-    op_1_inputs a.m.now a.tag.now a.c a.given a.n a.a.now a.b.now a.d.now _ c.in_ok-check.ensures c.in_ok-tag.ensures.0 (sym c.if-too_long.true ∙ c.too_long.ensures) (stays c.plain.ensures)
+    op_1_inputs a.m.now a.tag.now a.c a.inputs _ c.in_ok-check.ensures c.in_ok-tag.ensures.0 (sym c.if-too_long.true ∙ c.too_long.ensures) (stays c.plain.ensures)
 
 pub returns-then-not-is_operation : goal.returns-then-not-is_operation
 returns-then-not-is_operation c size lsize =
     let a = c.args in
-    op_4 a.m.now a.tag.now a.c a.given a.n a.a.now a.b.now a.d.now _ c.in_ok-check.ensures c.in_ok-tag.ensures.0 (sym c.if-too_long.false ∙ c.too_long.ensures) _ c.in_ok-tag.ensures.1.labelled
+    op_4 a.m.now a.tag.now a.c a.inputs _ c.in_ok-check.ensures c.in_ok-tag.ensures.0 (sym c.if-too_long.false ∙ c.too_long.ensures) _ c.in_ok-tag.ensures.1.labelled
     (sym c.is_operation.ensures ∙ c.if-not-is_operation.true) (stays c.of.ensures)
 
 pub returns-then-is_some : goal.returns-then-is_some
 returns-then-is_some c size lsize =
     let a = c.args in
-    op_11 a.m.now a.tag.now a.c a.given a.n a.a.now a.b.now a.d.now _ c.in_ok-check.ensures c.in_ok-tag.ensures.0 (sym c.if-too_long.false ∙ c.too_long.ensures) _ c.in_ok-tag.ensures.1.labelled
+    op_11 a.m.now a.tag.now a.c a.inputs _ c.in_ok-check.ensures c.in_ok-tag.ensures.0 (sym c.if-too_long.false ∙ c.too_long.ensures) _ c.in_ok-tag.ensures.1.labelled
     (sym c.is_operation.ensures ∙ c.if-not-is_operation.false) _ c.find_component.ensures (sym c.is_some.ensures ∙ c.if-is_some.true) (stays c.of-then-is_some.ensures)
 
 pub returns-then-not-inputs_fit : goal.returns-then-not-inputs_fit
 returns-then-not-inputs_fit c size lsize =
     let a = c.args in
-    op_2 a.m.now a.tag.now a.c a.given a.n a.a.now a.b.now a.d.now _ c.in_ok-check.ensures c.in_ok-tag.ensures.0 (sym c.if-too_long.false ∙ c.too_long.ensures) _ c.in_ok-tag.ensures.1.labelled
+    op_2 a.m.now a.tag.now a.c a.inputs _ c.in_ok-check.ensures c.in_ok-tag.ensures.0 (sym c.if-too_long.false ∙ c.too_long.ensures) _ c.in_ok-tag.ensures.1.labelled
     (sym c.is_operation.ensures ∙ c.if-not-is_operation.false) _ c.find_component.ensures (sym c.is_some.ensures ∙ c.if-is_some.false)
-    ((ap (fitting a.given a.n) (sym c.input_count-k.ensures) ∙ sym c.inputs_fit.ensures) ∙ c.if-not-inputs_fit.true) (stays c.of-then-not-inputs_fit.ensures)
+    ((ap (fitting a.inputs) (sym c.input_count-k.ensures) ∙ sym c.inputs_fit.ensures) ∙ c.if-not-inputs_fit.true) (stays c.of-then-not-inputs_fit.ensures)
 
 pub returns : goal.returns
 returns c size lsize =
     let a = c.args in
-    op_listed a.m.now a.tag.now a.c a.given a.n a.a.now a.b.now a.d.now _ c.in_ok-check.ensures c.in_ok-tag.ensures.0 (sym c.if-too_long.false ∙ c.too_long.ensures) _ c.in_ok-tag.ensures.1.labelled
+    op_listed a.m.now a.tag.now a.c a.inputs _ c.in_ok-check.ensures c.in_ok-tag.ensures.0 (sym c.if-too_long.false ∙ c.too_long.ensures) _ c.in_ok-tag.ensures.1.labelled
     (sym c.is_operation.ensures ∙ c.if-not-is_operation.false) _ c.find_component.ensures (sym c.is_some.ensures ∙ c.if-is_some.false)
-    ((ap (fitting a.given a.n) (sym c.input_count-k.ensures) ∙ sym c.inputs_fit.ensures) ∙ c.if-not-inputs_fit.false) size lsize _
-    (subst (λ (i : ℕ). RowOf c.in_ok-tag.tag (asked a.given i a.a.now a.b.now a.d.now) c.operation_row.result) c.input_count-k.ensures
-    (c.operation_row.ensures (omega (arith, few_inputs a.c, c.input_count-k.ensures)) (λ g. asked-short a.given a.n _ a.a.now a.b.now a.d.now (sym c.too_long.ensures ∙ c.if-too_long.false) (sym c.inputs_fit.ensures ∙ c.if-not-inputs_fit.false) (omega (arith, few_inputs a.c, c.input_count-k.ensures)) g)))
+    ((ap (fitting a.inputs) (sym c.input_count-k.ensures) ∙ sym c.inputs_fit.ensures) ∙ c.if-not-inputs_fit.false) size lsize _
+    (subst (λ (i : ℕ). RowOf c.in_ok-tag.tag (asked a.inputs i) c.operation_row.result) c.input_count-k.ensures
+    (c.operation_row.ensures (omega (arith, few_inputs a.c, c.input_count-k.ensures)) (asked-short a.inputs _ (sym c.too_long.ensures ∙ c.if-too_long.false) (sym c.inputs_fit.ensures ∙ c.if-not-inputs_fit.false) (omega (arith, few_inputs a.c, c.input_count-k.ensures)))))
     c.add_listed.ensures

@@ -5,12 +5,11 @@ use mathlib.Core.List.{List}
 use mathlib.Core.Option.{none}
 use Prim.Native.Nat.{ℕ, ◌<◌, ◌≤◌}
 use native.Mathlib.Omega.{arith}
-use lib.ListN.{length, take}
-use borrow.Author.Tests.{lt-ltb, le-leb, lt-leb}
+use lib.ListN.{length}
+use borrow.Author.Tests.{le-leb, lt-leb}
 use Rattle.tag.specs.declared.Tag.{Tag as Label}
-use Rattle.tag.specs.Tags.{Tag, overlong}
-use Rattle.tag.specs.View.{bytes_of, Labelled, Made}
-use Rattle.tag.proofs.Laws.View.{length-short, made_whole}
+use Rattle.tag.specs.Tags.{Tag}
+use Rattle.tag.specs.View.{bytes_of, Labelled}
 use Rattle.model.specs.declared.implicit_model.Model.{Model as Record}
 use Rattle.std.specs.Prelude.{Option, Some, None}
 use Rattle.model.specs.Table.{Table, find, held}
@@ -24,17 +23,6 @@ use Rattle.edit.specs.declared.Edited.{Edited}
 use Rattle.edit.specs.Ends.{Refused}
 
 -- ---- a tag that came in
-
-pub long : (t : Tag) → 32 < length t → overlong t ≡ true
-unfolding overlong
-long t h = lt-ltb 32 (length t) h
-
-pub short : (t : Tag) → length t ≤ 32 → overlong t ≡ false
-short t h = length-short t h
-
--- the record of a tag that is not overlong holds all of it
-pub labelled : {t : Tag} {u : Label} → length t ≤ 32 → Made (take 32 t) u → Labelled t u
-labelled {t} {u} h k = (made_whole t u (short t h) k).labelled
 
 -- a refusal that carries the label's tag
 pub carrying : {m : Record} {n : ℕ} {t : Tag} {u : Label} {i : ℕ} {r : Edited} → Labelled t u → Refused m n (bytes_of u) i r → Refused m n t i r

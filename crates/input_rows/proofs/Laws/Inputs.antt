@@ -13,7 +13,7 @@ use Rattle.tag.specs.Tags.{Tag, empty, overlong}
 use Rattle.tag.specs.View.{tag_fits, Made}
 use Rattle.component.specs.Value.{input_count}
 use Rattle.component.specs.declared.model_component.Component.{Component}
-use Rattle.std.specs.Prelude.{Some, None}
+use Rattle.std.specs.Prelude.{Option as Given, Some, None, IfSome}
 use Rattle.std.specs.List.{list_any}
 use Rattle.std.proofs.Common.{Bor}
 use Rattle.model.specs.Table.{any}
@@ -23,13 +23,14 @@ use Rattle.model.specs.View.{PlaceRecord, every, place_of, rows, place_fits, lis
 use Rattle.tag.proofs.Laws.View.{made_whole}
 use Rattle.model.proofs.Laws.Bool.{true→T, and_T}
 use Rattle.model.proofs.Laws.Valid.{unpassed}
-use Rattle.input_rows.specs.Inputs.{tags_given, inputs_of, fitting, Short, asked, RowOf}
+use Rattle.input_rows.specs.declared.Inputs.{Inputs}
+use Rattle.input_rows.specs.Inputs.{tags_given, tags_of, inputs_of, fitting, named, Short, asked, RowOf}
 
 -- ---- whether one is too long
 
 -- a test of the first n of three lent tags is one of the tags that are looked at
-pub any_given : (n : ℕ) (a b d : Bor Tag) → list_any (λ (x : Bor Tag). overlong x.now) (take n (a ∷ b ∷ d ∷ [])) ≡ any overlong (looked_at (inputs_of true n a.now b.now d.now))
-unfolding inputs_of tags_given
+pub any_given : (n : ℕ) (a b d : Bor Tag) → list_any (λ (x : Bor Tag). overlong x.now) (take n (a ∷ b ∷ d ∷ [])) ≡ any overlong (looked_at (some (tags_given n a.now b.now d.now)))
+unfolding tags_given
 any_given zero a b d = refl
 any_given (suc zero) a b d = refl
 any_given (suc (suc zero)) a b d = refl
@@ -44,10 +45,10 @@ unfolding tags_given
 given-length n a b d =
     length-take n (a ∷ b ∷ d ∷ replicate (n - 3) empty) ∙ ap (λ (k : ℕ). min n (suc (suc (suc k)))) (length-replicate (n - 3) empty) ∙ (let z : min n (suc (suc (suc (n - 3)))) ≡ n = omega arith in z)
 
-pub count_is : (given : Bool) (n : ℕ) (c : Component) (a b d : Tag) → eqb (length (new_places c (inputs_of given n a b d))) (input_count c) ≡ fitting given n (input_count c)
+pub count_is : (o : Given Inputs) (c : Component) → eqb (length (new_places c (inputs_of o))) (input_count c) ≡ fitting o (input_count c)
 unfolding inputs_of
-count_is false n c a b d = ap (λ (k : ℕ). eqb k (input_count c)) (length-replicate (input_count c) none) ∙ eq-eqb (input_count c) (input_count c) refl
-count_is true n c a b d = ap (λ (k : ℕ). eqb k (input_count c)) (length-map (tags_given n a b d) some ∙ given-length n a b d)
+count_is None c = ap (λ (k : ℕ). eqb k (input_count c)) (length-replicate (input_count c) none) ∙ eq-eqb (input_count c) (input_count c) refl
+count_is (Some i) c = ap (λ (k : ℕ). eqb k (input_count c)) (length-map (tags_of i) some ∙ given-length i.count i.first.now i.second.now i.third.now)
 
 given_few : (k : ℕ) (a b d : Tag) → k ≤ 3 → tags_given k a b d ≡ take k (a ∷ b ∷ d ∷ [])
 unfolding tags_given
@@ -57,24 +58,27 @@ given_few (suc (suc zero)) a b d h = refl
 given_few (suc (suc (suc zero))) a b d h = refl
 given_few (suc (suc (suc (suc k)))) a b d h = absurd (let y : ⊥ = omega arith in y)
 
+-- k inputs, where as many are given, are the first k tags
+tags-named : (i : Inputs) (k : ℕ) → k ≤ 3 → eqb i.count k ≡ true → tags_of i ≡ named k i
+tags-named i k h f =
+    ap (λ (n : ℕ). tags_given n i.first.now i.second.now i.third.now) (eqb-true i.count k f) ∙ given_few k i.first.now i.second.now i.third.now h
+
 -- the places asked for are the definition's
-pub asked_are : (given : Bool) (n : ℕ) (c : Component) (a b d : Tag) → input_count c ≤ 3 → fitting given n (input_count c) ≡ true
-    → asked given (input_count c) a b d ≡ new_places c (inputs_of given n a b d)
+pub asked_are : (o : Given Inputs) (c : Component) → input_count c ≤ 3 → fitting o (input_count c) ≡ true → asked o (input_count c) ≡ new_places c (inputs_of o)
 unfolding inputs_of
-asked_are false n c a b d h f = refl
-asked_are true n c a b d h f =
-    ap (λ (ts : List Tag). map some ts) (sym (given_few (input_count c) a b d h) ∙ ap (λ (k : ℕ). tags_given k a b d) (sym (eqb-true n (input_count c) f)))
+asked_are None c h f = refl
+asked_are (Some i) c h f = ap (λ (ts : List Tag). map some ts) (sym (tags-named i (input_count c) h f))
 
 -- none of those that are put into the list is too long
-pub asked-short : (given : Bool) (n k : ℕ) (a b d : Tag) → any overlong (looked_at (inputs_of given n a b d)) ≡ false → fitting given n k ≡ true → k ≤ 3 → given ≡ true → Short k a b d
-unfolding inputs_of tags_given
-asked-short false n k a b d e f h g = absurd (true→T false g)
-asked-short true n k a b d e f h g = record {
+pub asked-short : (o : Given Inputs) (k : ℕ) → any overlong (looked_at (inputs_of o)) ≡ false → fitting o k ≡ true → k ≤ 3 → IfSome o (Short k)
+unfolding inputs_of
+asked-short None k e f h = tt
+asked-short (Some i) k e f h = record {
   few = h;
-  short = ap (any overlong) (sym (looked k h) ∙ ap (λ (i : ℕ). take 3 (tags_given i a b d)) (sym (eqb-true n k f))) ∙ e;
+  short = ap (any overlong) (sym (looked k h) ∙ ap (take 3) (sym (tags-named i k h f))) ∙ e;
 }
   where
-    looked : (k : ℕ) → k ≤ 3 → take 3 (tags_given k a b d) ≡ take k (a ∷ b ∷ d ∷ [])
+    looked : (k : ℕ) → k ≤ 3 → take 3 (named k i) ≡ named k i
     looked zero h = refl
     looked (suc zero) h = refl
     looked (suc (suc zero)) h = refl
@@ -127,22 +131,22 @@ module _ (a : Tag) (x : Label) (mx : Made (take 32 a) x) (e : overlong a ≡ fal
   names_fit = true→T _ (made_whole a x e mx).labelled.short
 
 module _ (a b d : Tag) (x y z : Label) (mx : Made (take 32 a) x) (my : Made (take 32 b) y) (mz : Made (take 32 d) z) where
-  named : (k : ℕ) → k ≤ 3 → any overlong (take k (a ∷ b ∷ d ∷ [])) ≡ false
+  names_first : (k : ℕ) → k ≤ 3 → any overlong (take k (a ∷ b ∷ d ∷ [])) ≡ false
       → (rows place_of k (Some x ∷ Some y ∷ Some z ∷ []) ≡ map some (take k (a ∷ b ∷ d ∷ [])))
       × T (every (rows place_fits k (Some x ∷ Some y ∷ Some z ∷ [])))
   unfolding rows
-  named zero h e = (refl, tt)
-  named (suc zero) h e =
+  names_first zero h e = (refl, tt)
+  names_first (suc zero) h e =
       let p = or_left (overlong a) false e in
       (ap (λ (o : Place). o ∷ []) (names a x mx p), and_T (place_fits (Some x)) true (names_fit a x mx p) tt)
-  named (suc (suc zero)) h e =
+  names_first (suc (suc zero)) h e =
       let p = or_left (overlong a) (overlong b || false) e in
       let q = or_left (overlong b) false (or_right (overlong a) (overlong b || false) e) in (
         rw (names a x mx p, names b y my q),
         and_T (place_fits (Some x)) (place_fits (Some y) && true) (names_fit a x mx p)
             (and_T (place_fits (Some y)) true (names_fit b y my q) tt),
       )
-  named (suc (suc (suc zero))) h e =
+  names_first (suc (suc (suc zero))) h e =
       let p = or_left (overlong a) (overlong b || (overlong d || false)) e in
       let f = or_right (overlong a) (overlong b || (overlong d || false)) e in
       let q = or_left (overlong b) (overlong d || false) f in
@@ -152,11 +156,14 @@ module _ (a b d : Tag) (x y z : Label) (mx : Made (take 32 a) x) (my : Made (tak
             (and_T (place_fits (Some y)) (place_fits (Some z) && true) (names_fit b y my q)
             (and_T (place_fits (Some z)) true (names_fit d z mz s) tt)),
       )
-  named (suc (suc (suc (suc k)))) h e = absurd (let y : ⊥ = omega arith in y)
+  names_first (suc (suc (suc (suc k)))) h e = absurd (let y : ⊥ = omega arith in y)
 
-  pub given_row : (t : Label) (k : ℕ) → Short k a b d
-      → RowOf t (map some (take k (a ∷ b ∷ d ∷ [])))
-      (record { tag = t; count = k; places = Some x ∷ Some y ∷ Some z ∷ [] })
-  given_row t k s =
-      let n = named k s.few s.short in
-      record { tag = refl; places = n.0; fits = row_fits t k _ s.few n.1 }
+  first_row : (t : Label) (k : ℕ) → k ≤ 3 → any overlong (take k (a ∷ b ∷ d ∷ [])) ≡ false
+      → RowOf t (map some (take k (a ∷ b ∷ d ∷ []))) (record { tag = t; count = k; places = Some x ∷ Some y ∷ Some z ∷ [] })
+  first_row t k h e =
+      let n = names_first k h e in
+      record { tag = refl; places = n.0; fits = row_fits t k _ h n.1 }
+
+pub given_row : (i : Inputs) (x y z : Label) → Made (take 32 i.first.now) x → Made (take 32 i.second.now) y → Made (take 32 i.third.now) z
+    → (t : Label) (k : ℕ) → Short k i → RowOf t (map some (named k i)) (record { tag = t; count = k; places = Some x ∷ Some y ∷ Some z ∷ [] })
+given_row i x y z mx my mz t k s = first_row i.first.now i.second.now i.third.now x y z mx my mz t k s.few s.short

@@ -1,5 +1,5 @@
 -- `removing::remove` meets its contract. Assumes nothing.
-use Rattle.std.proofs.Common.{◌≡◌, ap, sym, ◌∙◌}
+use Rattle.std.proofs.Common.{rules, ◌≡◌, ap, sym, ◌∙◌}
 use lib.ListN.{length, length-set}
 use Rattle.model.specs.declared.implicit_model.Model.{Model as Record}
 use Rattle.model.specs.Answer.{refusal_of}
@@ -26,6 +26,6 @@ pub returns : goal.returns
 returns c =
     let a = c.args in
     let size : length a.m.now.components ≡ 64 =
-    sym (length-set a.m.now.components c.in_ok-i.i _) ∙ (ap (λ (r : Record). length r.components) (sym c.without_entry.ensures) ∙ c.without_entry.type_inv.1.1.0.1.0.1) in
+    sym (length-set a.m.now.components c.in_ok-i.i _) ∙ (ap (λ (r : Record). length r.components) (sym c.without_entry.ensures) ∙ search rules) in
     remove-done a.m.now a.tag.now _ c.in_ok-check.ensures c.in_ok-tag.ensures.0 _ c.in_ok-tag.ensures.1.labelled _ c.find_component.ensures
     size _ c.in_ok-i.ensures.ok_part _ c.without_entry.ensures _ c.places_swapped.ensures is_done

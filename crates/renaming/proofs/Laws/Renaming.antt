@@ -32,16 +32,7 @@ use Rattle.removing.specs.Swapping.{PlacesSwapped}
 use Rattle.removing.proofs.Laws.Holding.{Holds, holds_same, swapped_in, holds_swapped, named, named-fits}
 use Rattle.list_moving.specs.Moving.{Movable, ListMoved}
 use Rattle.list_moving.proofs.Laws.Moving.{retag_row}
-use Rattle.renaming.specs.Moving.{entry_under, entry_at, TagMoved}
-
--- the steps of the change, one after another
-pub tag_moved : {m : Record} {i : ℕ} {t u : Label} {w : Record} (k : Record) → (Movable m t u → ListMoved m (bytes_of t) (bytes_of u) k) → (c : ComponentEntry) → c ≡ entry_under (entry_at m i) u
-    → (n : Record) → n ≡ with_entry k i c → PlacesSwapped (bytes_of t) (Some u) n w → TagMoved m i t u w
-tag_moved {m} {i} {t} {u} {w} k a c d n b s = record {
-  lists = k;
-  moved = a;
-  places = subst (λ (x : Record). PlacesSwapped (bytes_of t) (Some u) x w) (b ∙ ap (with_entry k i) d) s;
-}
+use Rattle.renaming.specs.Moving.{entry_under, TagMoved}
 
 -- the component of t and its list moved to u
 abbrev moved_in : Record → Tag → Tag → Model

@@ -31,10 +31,6 @@ returns-in_err-i c =
     _ c.find_component.ensures (sym c.is_some.ensures ∙ c.if-is_some.false) _ c.find_component-2.ensures c.in_err-i.ensures.ok_part
     (handed_on _ c.from_residual-in_err-i.ensures.1 (ap refusal_of (none_refused _ _ _ c.in_err-i.ensures.value) ∙ c.of-2.ensures))
 
--- the component found stands within the table
-pub tag_moved-requires : goal.tag_moved-requires
-tag_moved-requires c = c.find_component-2.ensures.within _ c.in_ok-i.ensures.ok_part
-
 pub returns : goal.returns
 returns c =
     let a = c.args in

@@ -10,7 +10,6 @@ use Rattle.tag.specs.Tags.{Tag}
 use Rattle.model.specs.declared.implicit_model.Model.{Model as Record}
 use Rattle.model.specs.Edit.{Edit}
 use Rattle.edit_rows.specs.EditRows.{edit_at, ahead, rows_at, edits_of}
-use Rattle.newest.specs.Place.{tag_at}
 use Rattle.row_running.specs.Steps.{Stepped}
 use Rattle.row_running.proofs.Laws.Row.{chosen}
 use Rattle.steady.specs.Steps.{At, Listed}
@@ -44,8 +43,8 @@ rows_next s n i h =
     ap (λ (k : ℕ). rows_at k s (i * 256)) (let z : n - i ≡ suc (n - (i + 1)) = omega arith in z)
     ∙ ap (λ (k : ℕ). ahead (edit_at s (i * 256)) (rows_at (n - (i + 1)) s k)) (let z : i * 256 + 256 ≡ (i + 1) * 256 = omega arith in z)
 
-pub rest_start : (s : List ℕ) (m : Record) (t : Tag) → Resting s (length s / 256) 0 m t m (tag_at t s 0)
-unfolding edits_of tag_at
+pub rest_start : (s : List ℕ) (m : Record) (t : Tag) → Resting s (length s / 256) 0 m t m t
+unfolding edits_of
 rest_start s m t = λ es h. record {
   rest = es;
   rows =

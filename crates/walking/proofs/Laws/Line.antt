@@ -4,8 +4,8 @@ use mathlib.Core.Logic.{◌≢◌}
 use mathlib.Core.Bool.{Bool, true, false, ◌||◌}
 use mathlib.Core.List.{List, [], ◌∷◌}
 use mathlib.Core.Option.{none, some}
-use Prim.Native.Nat.{ℕ, zero, suc, ◌+◌, ◌<◌, ◌≤◌}
-use native.Mathlib.Nat.{not-suc-le-zero, le_of_suc-le-suc, add_comm}
+use Prim.Native.Nat.{ℕ, suc, ◌+◌, ◌<◌, ◌≤◌}
+use native.Mathlib.Nat.{add_comm}
 use native.Mathlib.Numerals.{add-one}
 use native.Mathlib.Omega.{arith}
 use lib.Dec.{T}
@@ -23,6 +23,7 @@ use Rattle.model.specs.View.{PlaceRecord, place_of, rows, list_of, lists_of, vie
 use Rattle.model.specs.Walk.{Walked, clear, met, gapped, walk, walk_from, total}
 use Rattle.held.proofs.Laws.Rows.{rows-length, rows_at}
 use Rattle.std.specs.Prelude.{Option, Some, None, Result, Ok, Err}
+use Rattle.std.proofs.lemmas.List.{get_or_default}
 use Rattle.held.specs.Search.{Sought}
 use Rattle.held.proofs.Laws.Search.{row}
 use Rattle.held.proofs.Laws.Changes.{find_at, rows_apart}
@@ -38,17 +39,12 @@ use Rattle.walking.proofs.Laws.Sound.{get_d_false, counted_start, counted-pushed
 
 -- ---- rows
 
-get_d_any : {A : Type 0} (xs : List A) (i : ℕ) (d e : A) → i < length xs → get_or xs i d ≡ get_or xs i e
-get_d_any [] i d e h = absurd (not-suc-le-zero h)
-get_d_any (x ∷ xs) zero d e h = refl
-get_d_any (x ∷ xs) (suc i) d e h = get_d_any xs i d e (le_of_suc-le-suc h)
-
 -- the row of the code's table
 pub row_of : {A B : Type 0} (g : A → Tag × B) (table : List A) (n i : ℕ) (d : A) → i < length (rows g n table) → Row (rows g n table) i (g (get_or table i d)).0 (g (get_or table i d)).1
-row_of g table n i d h = record { within = h; entry = λ e. get_d_any (rows g n table) i e (g d) h ∙ rows_at g table n i d h }
+row_of g table n i d h = record { within = h; entry = λ e. get_or_default (rows g n table) i e (g d) h ∙ rows_at g table n i d h }
 
 pub row_tag_at : (table : Table (List Place)) (r : ℕ) → r < length table → Row table r (tag_at table r) (get_or table r ([], [])).1
-row_tag_at table r h = record { within = h; entry = λ d. get_d_any table r d ([], []) h }
+row_tag_at table r h = record { within = h; entry = λ d. get_or_default table r d ([], []) h }
 
 module _ {A : Type 0} (table : Table A) (once : T (distinct table)) where
   pub row_found : (r : ℕ) (t : Tag) (a : A) → Row table r t a → find t table ≡ some a
@@ -61,10 +57,7 @@ module _ {A : Type 0} (table : Table A) (once : T (distinct table)) where
 
 -- ---- between two turns, and in a turn
 
--- the tags of two rows, and the walk between them
-abbrev aimed : Record → ℕ → Tag
-aimed m target = tag_at (lists_of m) target
-
+-- the walk between the tags of two rows
 abbrev answer : Record → ℕ → ℕ → Walked
 answer m target from = walk_from (view m) (tag_at (lists_of m) target) (tag_at (lists_of m) from)
 
@@ -251,7 +244,7 @@ module _ (m : Record) (target from : ℕ) (w : Walkable m target from) where
 pub sought_row : {table : Table (List Place)} {cap i : ℕ} {t : Tag} {f : Option ℕ} → Sought table cap t f → f ≡ Some i → Row table i t (get_or table i ([], [])).1
 sought_row {table} {i = i} p e =
     let w = row ([], []) table (sym p.at ∙ e) in
-    record { within = w.within; entry = λ d. get_d_any table i d ([], []) w.within ∙ (λ j. (w.tag j, (get_or table i ([], [])).1)) }
+    record { within = w.within; entry = λ d. get_or_default table i d ([], []) w.within ∙ (λ j. (w.tag j, (get_or table i ([], [])).1)) }
 
 -- ---- from a tag
 

@@ -43,3 +43,7 @@ counted-pushed line q c h f =
 
 pub sound-pushed : (line : Line) (q : ℕ) → Sound line → q < 128 → get_or line.seen q false ≡ false → Sound (pushed line q)
 sound-pushed line q s h f = record { counted = counted-pushed line q s.counted h f; below = below_set line.rows line.tail q h s.below }
+
+-- a row that is not marked has room in the line
+pub room : (line : Line) (q : ℕ) → Sound line → q < 128 → get_or line.seen q false ≡ false → line.tail < 128
+room line q s h f = omega (arith, marks-more line.seen q (omega (arith, h, s.counted.seen)) f, s.counted.seen, s.counted.tail)

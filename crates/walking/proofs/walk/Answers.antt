@@ -1,5 +1,4 @@
 -- `walking::walk` meets its contract. Assumes nothing.
-use native.Mathlib.Omega.{arith}
 use mathlib.Core.Path.{refl, sym, subst}
 use Rattle.model.specs.View.{lists_of}
 use Rattle.model.specs.Walk.{Walked}
@@ -17,12 +16,6 @@ walk-init c = (
   refl,
 )
 
-pub offset_bounds-line-head : goal.offset_bounds-line-head
-offset_bounds-line-head c = let w = c.walk in omega (arith, c.walk-test.true, counted_few w.line w.invariant.0.counted)
-
-pub bounds-line-head : goal.bounds-line-head
-bounds-line-head c = let w = c.walk in omega (arith, c.walk-test.true, counted_few w.line w.invariant.0.counted)
-
 pub loop-i-init : goal.loop-i-init
 loop-i-init c =
     let w = c.walk in (
@@ -38,12 +31,6 @@ loop-i-preserved c =
       (λ h. scanning_next c.args.m.now c.args.target c.args.from h v.line c.walk.head _ _ v.i (v.invariant.1 h) _ c.live_places-place-items.ensures.rows c.loop-i-test.true _ c.in-Some.is _ refl c.join.new.self c.join.ensures.joined),
       v.invariant.2,
     )
-
-pub overflow_add-head : goal.overflow_add-head
-overflow_add-head c = let w = c.walk in omega (arith, c.walk-test.true, counted_few w.line w.invariant.0.counted)
-
-pub walk-smaller : goal.walk-smaller
-walk-smaller c = let w = c.walk in omega (arith, c.walk-test.true, counted_few w.line w.invariant.0.counted)
 
 pub walk-preserved : goal.walk-preserved
 walk-preserved c =

@@ -2,7 +2,7 @@
 use mathlib.Core.Path.{◌∙◌, ap}
 use Rattle.model.specs.Answer.{refusal_of}
 use Rattle.edit.proofs.Laws.Step.{handed_on, becomes, none_refused, meets_7}
-use Rattle.wiring.proofs.Laws.Wiring.{add_1, add_1_source, add_12, add_12_source, add-held, add-wired}
+use Rattle.wiring.proofs.Laws.Wiring.{add_1, add_1_source, add_12, add_12_source, add-held}
 use Rattle.wiring.proofs.add.Goals as goal
 
 pub returns-in_err-check : goal.returns-in_err-check
@@ -36,9 +36,3 @@ wire-requires c =
     let a = c.args in
     add-held a.m.now a.target.now a.source.now a.index c.in_ok-check.ensures c.in_ok-target.ensures.0 c.in_ok-source.ensures.0 _ c.in_ok-target.ensures.1.labelled _ c.in_ok-source.ensures.1.labelled
     _ c.find_component.ensures c.in_ok-ok_or.ensures.ok_part _ c.find_component-2.ensures c.in_ok-ok_or-2.ensures.ok_part
-
-pub returns : goal.returns
-returns c =
-    let a = c.args in
-    add-wired a.m.now a.target.now a.source.now a.index c.in_ok-check.ensures c.in_ok-target.ensures.0 c.in_ok-source.ensures.0 _ c.in_ok-target.ensures.1.labelled _ c.in_ok-source.ensures.1.labelled
-    _ c.find_component.ensures c.wire.ensures

@@ -1,2 +1,0 @@
--- `Place`: where the newest tag stands.
-pub mod Place
