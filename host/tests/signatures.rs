@@ -109,6 +109,39 @@ fn promises(text: &str, behind: &str) -> BTreeMap<String, String> {
     called.collect()
 }
 
+/// What a function takes as one value, in the words and numbers of its export.
+const VALUES: [(&str, &str, &str, &str); 3] = [
+    (
+        "words: ComponentWords",
+        "kind: u64, a: u64, b: u64, c: u64, d: u64, e: u64",
+        "words",
+        "(five kind a b c d e)",
+    ),
+    (
+        "words: DataWords",
+        "kind: u64, a: u64, b: u64, c: u64",
+        "words",
+        "(record { kind = kind; a = a; b = b; c = c })",
+    ),
+    ("p: Vec3", "x: u64, y: u64, z: u64", "p", "(point_of (number x) (number y) (number z))"),
+];
+
+/// A function's arguments and clauses, with each such value made of what C hands over.
+fn as_c_hands_it_over(promise: &str) -> String {
+    let (arguments, clauses) = promise.split_once(" ensures {").unwrap();
+    let mut arguments = arguments.to_string();
+    let mut clauses = format!(" ensures {{{clauses}");
+    for (argument, words, name, value) in VALUES {
+        if arguments.contains(argument) {
+            arguments = arguments.replace(argument, words);
+            for end in [" ", ")"] {
+                clauses = clauses.replace(&format!(" {name}{end}"), &format!(" {value}{end}"));
+            }
+        }
+    }
+    arguments + &clauses
+}
+
 #[test]
 fn the_same_arguments_everywhere() {
     let exported = of_the_crate();
@@ -122,8 +155,11 @@ fn an_export_has_the_clauses_of_its_function() {
     let of = |names: &[&str], behind: &str| -> BTreeMap<String, String> {
         names.iter().flat_map(|name| texts(name)).flat_map(|text| promises(&text, behind)).collect()
     };
-    let functions = of(&CRATES, "pub fn ");
+    let mut functions = of(&CRATES, "pub fn ");
     assert_eq!(functions.len(), 25);
+    for promise in functions.values_mut() {
+        *promise = as_c_hands_it_over(promise);
+    }
     assert!(functions.values().all(|promise| promise.contains("ensures {")));
     assert_eq!(of(&["dotterelwire"], EXPORTED), functions);
 }

@@ -6,6 +6,8 @@ ghost use Rattle.component_layout.specs.Components.{number};
 ghost use Rattle.word_edits.specs.Edits.{function_of};
 ghost use Rattle.storing.specs.Called.{Called};
 
+use component_layout::component_numbers::ComponentWords;
+use decoded::additions;
 use direct_adding::{add_constant_in, add_function_in};
 use float::bits::float_of;
 use storing::store::tell_made;
@@ -17,25 +19,15 @@ pub fn dw_add_constant(model: &mut [u8], tag: &[u8], value: u64, out: &mut [u8])
     if let Some(t) = add_constant_in(model, tag, float_of(value)) {
         return tell_made(t, out);
     }
-    decoded_adding::add_constant(model, tag, value, out)
+    additions::add_constant(model, tag, value, out)
 }
 
-pub fn dw_add_function(
-    model: &mut [u8],
-    tag: &[u8],
-    kind: u64,
-    a: u64,
-    b: u64,
-    c: u64,
-    d: u64,
-    e: u64,
-    out: &mut [u8],
-) -> u32
-    ensures { Called (add_function tag.now (function_of kind a b c d e)) model.old model.new out.old out.new result }
+pub fn dw_add_function(model: &mut [u8], tag: &[u8], words: ComponentWords, out: &mut [u8]) -> u32
+    ensures { Called (add_function tag.now (function_of words)) model.old model.new out.old out.new result }
 {
-    let f = function_of(kind, a, b, c, d, e);
+    let f = function_of(words);
     if let Some(t) = add_function_in(model, tag, f) {
         return tell_made(t, out);
     }
-    decoded_adding::add_function(model, tag, kind, a, b, c, d, e, out)
+    additions::add_function(model, tag, words, out)
 }

@@ -1,45 +1,28 @@
 // A form's number at a point.
-ghost use Rattle.evaluating.specs.Evaluate.{point_of};
-ghost use Rattle.component_layout.specs.Components.{number};
-ghost use Rattle.asking.specs.Form.{Evaluates};
+ghost use Rattle.evaluating.specs.Evaluate.{reply_of};
+ghost use Rattle.model_bytes.specs.ModelBytes.{model_in};
+ghost use Rattle.asking.specs.Form.{Replies, Evaluates};
 
 use direct::evaluate::evaluate_in;
 use evaluating::evaluate::evaluate_at;
-use float::bits::float_of;
-use model_bytes::decode::decode;
-use opened::{say, say_code};
-use tag::Tag;
+use geometry::vec3f::Vec3;
+use model::model_error::Refusal;
+use opened::{read_model, say_number};
 
-// The number of the target's form at a point, or a refusal, of the model decoded.
-fn evaluate_decoded(model: &[u8], target: &[u8], x: f64, y: f64, z: f64, out: &mut [u8]) -> u32
-    ensures { Evaluates model.now target.now (point_of x y z) out.old out.new result }
+// The number straight from the bytes where that gives one, else as the model decoded answers.
+fn number_at(model: &[u8], target: &[u8], p: Vec3) -> Result<u64, Refusal>
+    ensures { Replies (model_in model.now) target.now p (reply_of result) }
 {
-    let d = decode(model);
-    if !d.ok {
-        return say_code(out, 7);
+    if let Some(bits) = evaluate_in(model, target, p) {
+        return Ok(bits);
     }
-    match evaluate_at(&d.model, target, x, y, z) {
-        Ok(bits) => say(out, 0, 0, Tag::default(), bits),
-        Err(refusal) => {
-            let code = u32::from(refusal.error);
-            say(out, code, refusal.index as u64, refusal.tag, 0)
-        }
-    }
-}
-
-// The number of the target's form at a point, straight from the bytes where that gives one, else as the model decoded answers.
-fn evaluate(model: &[u8], target: &[u8], x: f64, y: f64, z: f64, out: &mut [u8]) -> u32
-    ensures { Evaluates model.now target.now (point_of x y z) out.old out.new result }
-{
-    if let Some(bits) = evaluate_in(model, target, x, y, z) {
-        return say(out, 0, 0, Tag::default(), bits);
-    }
-    evaluate_decoded(model, target, x, y, z, out)
+    let m = read_model(model)?;
+    evaluate_at(&m, target, p)
 }
 
 // The number of the target's form at a point, or a refusal.
-pub fn dw_evaluate_at(model: &[u8], target: &[u8], x: u64, y: u64, z: u64, out: &mut [u8]) -> u32
-    ensures { Evaluates model.now target.now (point_of (number x) (number y) (number z)) out.old out.new result }
+pub fn dw_evaluate_at(model: &[u8], target: &[u8], p: Vec3, out: &mut [u8]) -> u32
+    ensures { Evaluates model.now target.now p out.old out.new result }
 {
-    evaluate(model, target, float_of(x), float_of(y), float_of(z), out)
+    say_number(out, number_at(model, target, p))
 }

@@ -3,6 +3,7 @@ ghost use Rattle.model.specs.Edit.{remove_component, rename_component, set_param
 ghost use Rattle.word_edits.specs.Edits.{data_of};
 ghost use Rattle.storing.specs.Called.{Called};
 
+use component_layout::component_words::DataWords;
 use direct_removing::remove_component_in;
 use direct_renaming::rename_component_in;
 use direct_setting::set_parameter_in;
@@ -31,17 +32,14 @@ pub fn dw_set_parameter(
     model: &mut [u8],
     tag: &[u8],
     name: &[u8],
-    kind: u64,
-    a: u64,
-    b: u64,
-    c: u64,
+    words: DataWords,
     out: &mut [u8],
 ) -> u32
-    ensures { Called (set_parameter tag.now name.now (data_of kind a b c)) model.old model.new out.old out.new result }
+    ensures { Called (set_parameter tag.now name.now (data_of words)) model.old model.new out.old out.new result }
 {
-    let v = data_of(kind, a, b, c);
+    let v = data_of(words);
     if set_parameter_in(model, tag, name, v) {
         return tell_done(out);
     }
-    decoded::set_parameter(model, tag, name, kind, a, b, c, out)
+    decoded::set_parameter(model, tag, name, words, out)
 }

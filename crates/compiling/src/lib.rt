@@ -8,14 +8,13 @@ ghost use Rattle.graph.specs.Compile.{tag_at};
 ghost use Rattle.evaluating.specs.Evaluate.{Workable};
 ghost use Rattle.rows.specs.Rows.{rows_in};
 ghost use Rattle.rows.specs.Written.{Wrote};
-ghost use Rattle.compiling.specs.Order.{tag_row, OrderIn, Compiles, tags_of};
+ghost use Rattle.compiling.specs.Order.{tag_row, OrderIn, Orders, Compiles, tags_of};
 
 use graph::computation_graph::{Graph, compile};
 use model::implicit_model::Model;
-use model_bytes::decode::decode;
-use opened::{say, say_code};
+use model::model_error::Refusal;
+use opened::{read_model, say_number};
 use rows::writing::write_tag;
-use tag::Tag;
 
 // Writes the tags of an order.
 fn write_tags(m: &Model, g: &Graph, order: &mut [u8])
@@ -39,22 +38,19 @@ fn write_order(m: &Model, g: &Graph, order: &mut [u8])
     write_tags(m, g, order);
 }
 
+// Writes the tags of the target's order, and answers how many they are.
+fn order_in(model: &[u8], target: &[u8], order: &mut [u8]) -> Result<u64, Refusal>
+    ensures { Orders model.now target.now order.old order.new result }
+{
+    let m = read_model(model)?;
+    let graph = compile(&m, target)?;
+    write_order(&m, &graph, order);
+    Ok(graph.count as u64)
+}
+
 // The order in which the target's components are computed, as tags, or a refusal.
 pub fn dw_compile(model: &[u8], target: &[u8], order: &mut [u8], out: &mut [u8]) -> u32
     ensures { Compiles model.now target.now order.old order.new out.old out.new result }
 {
-    let d = decode(model);
-    if !d.ok {
-        return say_code(out, 7);
-    }
-    match compile(&d.model, target) {
-        Ok(graph) => {
-            write_order(&d.model, &graph, order);
-            say(out, 0, 0, Tag::default(), graph.count as u64)
-        }
-        Err(refusal) => {
-            let code = u32::from(refusal.error);
-            say(out, code, refusal.index as u64, refusal.tag, 0)
-        }
-    }
+    say_number(out, order_in(model, target, order))
 }

@@ -1,4 +1,4 @@
-// `add_constant` and `add_function`, made in the bytes of a model; and one component more, which every adding there ends with. A no changes nothing, and says nothing of the edit.
+// `add_constant` and `add_function`, made in the bytes of a model; and one component more, which every adding there ends with. None changes nothing, and says nothing of the edit.
 #![tactic(auto)]
 
 pub mod put;
@@ -17,11 +17,8 @@ use tag::Tag;
 pub fn add_more_in(s: &mut [u8], t: Tag, c: Component, d: Tag) -> Option<Tag>
     ensures { Grew t c d s.old s.new result }
 {
-    if s.len() != 27200 {
-        return None;
-    }
     let n = Table::Components.count(s);
-    if 64 <= n {
+    if s.len() != 27200 || 64 <= n {
         return None;
     }
     put_more(s, n, t, c, d);
@@ -32,16 +29,8 @@ pub fn add_more_in(s: &mut [u8], t: Tag, c: Component, d: Tag) -> Option<Tag>
 fn add_plain_in(s: &mut [u8], tag: &[u8], c: Component, fits: bool) -> Option<Tag>
     ensures { Plainly tag.now c fits s.old s.new result }
 {
-    if !fits {
-        return None;
-    }
-    let Ok(t) = Tag::try_from(tag) else {
-        return None;
-    };
-    if !stands(s) {
-        return None;
-    }
-    if Table::Components.row_of(s, tag).is_some() {
+    let t = Tag::try_from(tag).ok()?;
+    if !fits || !stands(s) || Table::Components.row_of(s, tag).is_some() {
         return None;
     }
     add_more_in(s, t, c, t)

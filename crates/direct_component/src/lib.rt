@@ -1,4 +1,4 @@
-// `add_component`, made in the bytes of a model. A no changes nothing, and says nothing of the edit.
+// `add_component`, made in the bytes of a model. None changes nothing, and says nothing of the edit.
 #![tactic(auto)]
 
 mod free;
@@ -17,9 +17,7 @@ use tag::Tag;
 pub fn add_component_in(s: &mut [u8], tag: &[u8], c: Component) -> Option<Tag>
     ensures { Makes (add_component tag.now c) s.old s.new result }
 {
-    let Ok(t) = Tag::try_from(tag) else {
-        return None;
-    };
+    let t = Tag::try_from(tag).ok()?;
     if !stands(s) {
         return None;
     }

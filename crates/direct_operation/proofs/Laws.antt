@@ -1,5 +1,4 @@
--- `Written`: what the writes promise. `Put`: the model in the bytes after a list is written. `Listed`: one component more with its list. `Operation`: what `add_operation` answers.
-pub mod Written
+-- `Put`: the model in the bytes after a list is written. `Listed`: one component more with its list. `Operation`: what `add_operation` answers.
 pub mod Put
 pub mod Listed
 pub mod Operation

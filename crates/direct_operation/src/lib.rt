@@ -1,4 +1,4 @@
-// `add_operation`, made in the bytes of a model; and a component with its list, which `add_component` ends with there too. A no changes nothing, and says nothing of the edit.
+// `add_operation`, made in the bytes of a model; and a component with its list, which `add_component` ends with there too. None changes nothing, and says nothing of the edit.
 #![tactic(auto)]
 
 mod put;
@@ -11,6 +11,7 @@ ghost use Rattle.direct_operation.specs.Listed.{Listed};
 use crate::put::{put_operation, row_for};
 use component::model_component::Component;
 use finding::Table;
+use input_rows::{Inputs, inputs_fit, operation_row, too_long};
 use model::implicit_model::InputList;
 use standing::stands;
 use tag::Tag;
@@ -19,14 +20,8 @@ use tag::Tag;
 pub fn add_listed_in(s: &mut [u8], c: Component, l: InputList, d: Tag) -> Option<Tag>
     ensures { Listed c l d s.old s.new result }
 {
-    if s.len() != 27200 {
-        return None;
-    }
-    if 3 < l.count {
-        return None;
-    }
     let n = Table::Components.count(s);
-    if 64 <= n {
+    if s.len() != 27200 || 3 < l.count || 64 <= n {
         return None;
     }
     let t = l.tag;
@@ -35,38 +30,24 @@ pub fn add_listed_in(s: &mut [u8], c: Component, l: InputList, d: Tag) -> Option
     Some(t)
 }
 
-// `inputs` are none, or n tags of which the first three at most are looked at.
+// Of the tags that are given the first three at most are looked at.
 pub fn add_operation_in(
     s: &mut [u8],
     tag: &[u8],
     c: Component,
-    given: bool,
-    n: usize,
-    a: &[u8],
-    b: &[u8],
-    d: &[u8],
+    inputs: Option<Inputs>,
 ) -> Option<Tag>
-    ensures { Makes (add_operation tag.now c (inputs_of given n a.now b.now d.now)) s.old s.new result }
+    ensures { Makes (add_operation tag.now c (inputs_of inputs.entry)) s.old s.new result }
 {
-    let Ok(t) = Tag::try_from(tag) else {
-        return None;
-    };
-    if input_rows::too_long(given, n, a, b, d) {
-        return None;
-    }
-    if !c.is_operation() {
-        return None;
-    }
+    let t = Tag::try_from(tag).ok()?;
     let k = c.input_count();
-    if !input_rows::inputs_fit(given, n, k) {
+    if too_long(inputs)
+        || !c.is_operation()
+        || !inputs_fit(inputs, k)
+        || !stands(s)
+        || Table::Components.row_of(s, tag).is_some()
+    {
         return None;
     }
-    if !stands(s) {
-        return None;
-    }
-    if Table::Components.row_of(s, tag).is_some() {
-        return None;
-    }
-    let row = input_rows::operation_row(t, given, k, a, b, d);
-    add_listed_in(s, c, row, t)
+    add_listed_in(s, c, operation_row(t, inputs, k), t)
 }

@@ -20,7 +20,7 @@ pub(crate) fn row_for(s: &[u8], t: Tag) -> Option<usize>
         return Some(j);
     }
     let n = Table::Lists.count(s);
-    if n < 128 { Some(n) } else { None }
+    (n < 128).then_some(n)
 }
 
 // A list in the row j, which is one of those counted or the next one.

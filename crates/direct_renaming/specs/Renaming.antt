@@ -4,7 +4,7 @@ use Rattle.std.proofs.Math.Option.{some}
 use Rattle.tag.specs.Tags.{Tag}
 use Rattle.layout.specs.Words.{word, text}
 use Rattle.rows.specs.Rows.{tag_in}
-use Rattle.rows.specs.Written.{Wrote}
+use Rattle.rows.specs.Written.{Writes}
 use Rattle.finding.specs.Rows.{component_at, list_place_at, RowSought}
 use Rattle.standing.specs.Standing.{Passing}
 
@@ -17,7 +17,7 @@ pub record Renamable (s : List ℕ) (t u : Tag) (r : ℕ) : Type 0 where
   pub free-list : (j : ℕ) → j < min (word s 16) 128 → text s (list_place_at j) ≢ u
   pub row : RowSought s component_at (min (word s 8) 64) t (Some r)
 
--- the list in a row is under the tag u; there is no other change, and none where there is no such row
+-- the list in a row, where it stands in the bytes, is under the tag u; there is no other change, and none where there is no such row
 abbrev pub ListRenamed : Option ℕ → Tag → List ℕ → List ℕ → Type 0
-ListRenamed (Some j) u s v = Wrote (λ x. tag_in x (list_place_at j)) (some u) (list_place_at j) 40 s v
+ListRenamed (Some j) u s v = Writes (λ x. tag_in x (list_place_at j)) (some u) (list_place_at j) 40 s v
 ListRenamed None u s v = v ≡ s

@@ -1,7 +1,8 @@
 // `rename_component` in the bytes of a model.
 #![tactic(auto)]
 
-ghost use Rattle.std.specs.Prelude.{◌≡◌, ◌<◌, length, IfSome};
+ghost use Rattle.std.specs.Prelude.{◌≡◌, ◌<◌, false, IfSome};
+ghost use Rattle.tag.specs.Tags.{overlong};
 ghost use Rattle.tag.specs.View.{bytes_of};
 ghost use Rattle.model.specs.Edit.{rename_component};
 ghost use Rattle.direct_rows.specs.Took.{Makes};
@@ -11,33 +12,26 @@ use direct_swapping::swap_places;
 use finding::Table;
 use rows::writing::write_tag;
 use standing::stands;
-use tag::{Tag, tag_of};
+use tag::Tag;
 
 // The row of the component to be renamed; none where nothing is renamed here: also where a list was left under the new tag.
 fn row_to_rename(s: &[u8], old: &[u8], new: &[u8]) -> Option<usize>
+    requires { overlong new.now ≡ false }
     ensures { IfSome result (Renamable s.now old.now new.now) }
 {
-    if !stands(s) {
+    if !stands(s)
+        || Table::Components.row_of(s, new).is_some()
+        || Table::Lists.row_of(s, new).is_some()
+    {
         return None;
     }
-    if 32 < old.len() {
-        return None;
-    }
-    if 32 < new.len() {
-        return None;
-    }
-    if Table::Components.row_of(s, new).is_some() {
-        return None;
-    }
-    if Table::Lists.row_of(s, new).is_some() {
-        return None;
-    }
+    Tag::try_from(old).ok()?;
     Table::Components.row_of(s, old)
 }
 
 // The list in a row, where there is one, under another tag.
 fn rename_list(s: &mut [u8], row: Option<usize>, t: Tag)
-    requires { (length s.old ≡ 27200) × IfSome row (λ j. j < 128) }
+    requires { IfSome row (λ j. j < 128) }
     ensures { ListRenamed row (bytes_of t) s.old s.new }
 {
     if let Some(j) = row {
@@ -49,8 +43,8 @@ fn rename_list(s: &mut [u8], row: Option<usize>, t: Tag)
 pub fn rename_component_in(s: &mut [u8], old: &[u8], new: &[u8]) -> Option<Tag>
     ensures { Makes (rename_component old.now new.now) s.old s.new result }
 {
+    let t = Tag::try_from(new).ok()?;
     let i = row_to_rename(s, old, new)?;
-    let t = tag_of(new);
     let row = Table::Lists.row_of(s, old);
     write_tag(s, 64 + 88 * i, t);
     rename_list(s, row, t);

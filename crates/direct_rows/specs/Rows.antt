@@ -1,12 +1,11 @@
 -- What is written in the rows of a model in bytes. Definitions only.
-use Rattle.std.specs.Prelude.{ℕ, ◌+◌, ◌*◌, ◌≤◌, ◌<◌, ◌≡◌, ◌≢◌, List, length}
+use Rattle.std.specs.Prelude.{ℕ, ◌+◌, ◌*◌, ◌≤◌, ◌<◌, ◌≡◌, List, length}
 use Rattle.std.proofs.Math.Option.{some}
 use Rattle.tag.specs.Tags.{Tag}
 use Rattle.tag.specs.View.{bytes_of}
 use Rattle.component.specs.declared.model_component.Component.{Component}
 use Rattle.model.specs.declared.implicit_model.InputList.{InputList}
 use Rattle.model.specs.Model.{Place}
-use Rattle.layout.specs.Words.{text}
 use Rattle.rows.specs.Rows.{place_in, places_of}
 use Rattle.rows.specs.Written.{Wrote}
 use Rattle.model_bytes.specs.ModelBytes.{entry_in, list_in}

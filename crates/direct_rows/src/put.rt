@@ -9,7 +9,7 @@ use model::implicit_model::{InputList, Place};
 use rows::writing::{write_component, write_number, write_place, write_places, write_tag};
 use tag::Tag;
 
-// What a row of the components holds.
+// Writes what a row of the components holds.
 pub fn put_entry(s: &mut [u8], i: usize, t: Tag, c: Component)
     ensures { PutEntry i (bytes_of t) c s.old s.new }
 {
@@ -19,11 +19,12 @@ pub fn put_entry(s: &mut [u8], i: usize, t: Tag, c: Component)
     if 64 <= i {
         return;
     }
-    write_tag(s, 64 + 88 * i, t);
-    write_component(s, 104 + 88 * i, c);
+    let at = 64 + 88 * i;
+    write_tag(s, at, t);
+    write_component(s, at + 40, c);
 }
 
-// What a row of the lists holds.
+// Writes what a row of the lists holds.
 pub fn put_list(s: &mut [u8], j: usize, l: InputList)
     ensures { PutList j l s.old s.new }
 {
@@ -36,14 +37,13 @@ pub fn put_list(s: &mut [u8], j: usize, l: InputList)
     if 3 < l.count {
         return;
     }
-    let t = l.tag;
-    let n = l.count;
-    write_tag(s, 5696 + 168 * j, t);
-    write_number(s, 5736 + 168 * j, n as u64);
-    write_places(s, 5744 + 168 * j, l);
+    let at = 5696 + 168 * j;
+    write_tag(s, at, l.tag);
+    write_number(s, at + 40, l.count as u64);
+    write_places(s, at + 48, l);
 }
 
-// One place of a list.
+// Writes one place of a list.
 pub fn put_place(s: &mut [u8], j: usize, p: usize, place: Place)
     ensures { PutPlace j p (place_of place) s.old s.new }
 {

@@ -1,4 +1,4 @@
--- `Parts`: what a row of a table is made of. `Swapping`: places that name a tag changed. `Swapped`: the model of the bytes with its places swapped.
-pub mod Parts
+-- `Swapping`: places that name a tag changed. `Swapped`: the model of the bytes with its places swapped. `Fitted`: the tag of bytes that are not too many for one.
 pub mod Swapping
 pub mod Swapped
+pub mod Fitted

@@ -45,10 +45,6 @@ pub record ListSwapped (t : Tag) (p : Place) (j : ℕ) (s u : List ℕ) : Type 0
 abbrev pub RowsSwapped : Tag → Place → ℕ → List ℕ → List ℕ → Type 0
 RowsSwapped t p n s u = Mapped list_row (swap_list t p) (λ j. 5696 + 168 * j) n s u
 
--- the lists that the bytes count
-abbrev pub ListsSwapped : Tag → Place → List ℕ → List ℕ → Type 0
-ListsSwapped t p s u = RowsSwapped t p (min (word s 16) 128) s u
-
 -- Bytes of a model's size: each list that they count, and the default, with every place swapped; there is no other change. Other bytes are not changed.
 pub record Swapped (t : Tag) (p : Place) (s u : List ℕ) : Type 0 where
   pub size : length u ≡ length s

@@ -1,6 +1,7 @@
 // `add_input` and `remove_input` in the bytes of a model. A yes is right; a no changes nothing, and says nothing of the edit.
 #![tactic(auto)]
 
+ghost use Rattle.std.specs.Prelude.{is_some};
 ghost use Rattle.model.specs.Edit.{add_input, remove_input, done};
 ghost use Rattle.model.specs.View.{place_of};
 ghost use Rattle.direct_rows.specs.Took.{Takes};
@@ -14,52 +15,52 @@ use model::implicit_model::Place;
 use standing::{stands, wired};
 use tag::Tag;
 
-// Writes one place of the list of a tag; says no where there is no such place.
-fn place_in(s: &mut [u8], tag: &[u8], index: usize, p: Place) -> bool
-    ensures { PlacesIn tag.now index (place_of p) s.old s.new result }
+// Writes one place of the list of a tag; None where there is no such place.
+fn place_in(s: &mut [u8], tag: &[u8], index: usize, p: Place) -> Option<()>
+    ensures { PlacesIn tag.now index (place_of p) s.old s.new (is_some result) }
 {
-    let Some(j) = Table::Lists.row_of(s, tag) else {
-        return false;
-    };
+    let j = Table::Lists.row_of(s, tag)?;
     if read_word(s, 5736 + 168 * j) <= index as u64 {
-        return false;
+        return None;
     }
     put_place(s, j, index, p);
-    true
+    Some(())
+}
+
+// The place left unassigned; None where nothing is written.
+fn remove_in(s: &mut [u8], tag: &[u8], index: usize) -> Option<()>
+    ensures { Takes (remove_input tag.now index) done s.old s.new (is_some result) }
+{
+    if !stands(s) {
+        return None;
+    }
+    Tag::try_from(tag).ok()?;
+    place_in(s, tag, index, None)
 }
 
 pub fn remove_input_in(s: &mut [u8], tag: &[u8], index: usize) -> bool
     ensures { Takes (remove_input tag.now index) done s.old s.new result }
 {
-    if !stands(s) {
-        return false;
+    remove_in(s, tag, index).is_some()
+}
+
+// The place wired to the source; None where nothing is written.
+fn add_in(s: &mut [u8], target: &[u8], source: &[u8], index: usize) -> Option<()>
+    ensures { Takes (add_input target.now source.now index) done s.old s.new (is_some result) }
+{
+    let standing = wired(s)?;
+    Tag::try_from(target).ok()?;
+    let t = Tag::try_from(source).ok()?;
+    let i = Table::Components.row_of(s, target)?;
+    let k = Table::Components.row_of(s, source)?;
+    if !is_clear(&standing.wires, standing.count(), i, k) {
+        return None;
     }
-    if 32 < tag.len() {
-        return false;
-    }
-    place_in(s, tag, index, None)
+    place_in(s, target, index, Some(t))
 }
 
 pub fn add_input_in(s: &mut [u8], target: &[u8], source: &[u8], index: usize) -> bool
     ensures { Takes (add_input target.now source.now index) done s.old s.new result }
 {
-    let Some(standing) = wired(s) else {
-        return false;
-    };
-    if 32 < target.len() {
-        return false;
-    }
-    let Ok(t) = Tag::try_from(source) else {
-        return false;
-    };
-    let Some(i) = Table::Components.row_of(s, target) else {
-        return false;
-    };
-    let Some(k) = Table::Components.row_of(s, source) else {
-        return false;
-    };
-    if !is_clear(&standing.wires, standing.count(), i, k) {
-        return false;
-    }
-    place_in(s, target, index, Some(t))
+    add_in(s, target, source, index).is_some()
 }

@@ -11,30 +11,14 @@ use component_layout::component_numbers::ComponentWords;
 use component_layout::component_words::component_from;
 use direct_component::add_component_in;
 use direct_operation::add_operation_in;
+use edit_rows::inputs_word::inputs_given;
 use tag::Tag;
 
-pub fn add_component_in_of(
-    s: &mut [u8],
-    tag: &[u8],
-    kind: u64,
-    a: u64,
-    b: u64,
-    c: u64,
-    d: u64,
-    e: u64,
-) -> Option<Tag>
-    ensures { Makes (component_edit tag.now kind a b c d e) s.old s.new result }
+#[tactic(auto, unfolding(word_edits::specs::Edits::component_edit))]
+pub fn add_component_in_of(s: &mut [u8], tag: &[u8], w: ComponentWords) -> Option<Tag>
+    ensures { Makes (component_edit tag.now w) s.old s.new result }
 {
-    let Some(component) = component_from(ComponentWords {
-        kind,
-        a,
-        b,
-        c,
-        d,
-        e,
-    }) else {
-        return None;
-    };
+    let component = component_from(w)?;
     add_component_in(s, tag, component)
 }
 
@@ -50,8 +34,5 @@ pub fn add_operation_in_with(
 ) -> Option<Tag>
     ensures { Makes (add_operation tag.now op (given count first.now second.now third.now)) s.old s.new result }
 {
-    if count == 0 {
-        return add_operation_in(s, tag, op, false, 0, first, second, third);
-    }
-    add_operation_in(s, tag, op, true, (count - 1) as usize, first, second, third)
+    add_operation_in(s, tag, op, inputs_given(count, first, second, third))
 }

@@ -3,6 +3,8 @@ ghost use Rattle.model.specs.Edit.{remove_component, rename_component, set_param
 ghost use Rattle.storing.specs.Called.{Called};
 ghost use Rattle.word_edits.specs.Edits.{data_of};
 
+use component_layout::component_words::DataWords;
+
 #[unsafe(no_mangle)]
 pub extern "C" fn dw_remove_component(model: &mut [u8], tag: &[u8], out: &mut [u8]) -> u32
     ensures { Called (remove_component tag.now) model.old model.new out.old out.new result }
@@ -33,9 +35,10 @@ pub extern "C" fn dw_set_parameter(
     c: u64,
     out: &mut [u8],
 ) -> u32
-    ensures { Called (set_parameter tag.now name.now (data_of kind a b c)) model.old model.new out.old out.new result }
+    ensures { Called (set_parameter tag.now name.now (data_of (record { kind = kind; a = a; b = b; c = c }))) model.old model.new out.old out.new result }
 {
-    calls::edits::dw_set_parameter(model, tag, name, kind, a, b, c, out)
+    let words = DataWords { kind, a, b, c };
+    calls::edits::dw_set_parameter(model, tag, name, words, out)
 }
 
 #[unsafe(no_mangle)]

@@ -1,4 +1,4 @@
-// The static library that a host links (docs/ABI.md): each function of the crates that answer a host, under its C name and with its clauses again.
+// The static library that a host links (docs/ABI.md): each function of the crates that answer a host, under its C name and with its clauses again, of the words and numbers that C hands over.
 #![tactic(auto)]
 
 mod additions;
@@ -6,5 +6,6 @@ mod changes;
 mod lists;
 mod numbers;
 mod parameters;
+mod point;
 mod questions;
 mod tables;

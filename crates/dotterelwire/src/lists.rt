@@ -4,6 +4,8 @@ ghost use Rattle.evaluating.specs.Evaluate.{point_of};
 ghost use Rattle.component_layout.specs.Components.{number};
 ghost use Rattle.edit_rows.specs.EditRows.{edits_of};
 
+use crate::point::point;
+
 // Writes a new model; a slice of another length is 7 and is left alone.
 #[unsafe(no_mangle)]
 pub extern "C" fn dw_new(model: &mut [u8], out: &mut [u8]) -> u32
@@ -25,5 +27,5 @@ pub extern "C" fn dw_evaluate_after(
 ) -> u32
     ensures { AskedAfter (edits_of edits.now) target.now (point_of (number x) (number y) (number z)) model.old model.new out.old out.new result }
 {
-    edit_lists::dw_evaluate_after(model, edits, target, x, y, z, out)
+    edit_lists::dw_evaluate_after(model, edits, target, point(x, y, z), out)
 }

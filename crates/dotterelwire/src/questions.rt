@@ -6,6 +6,8 @@ ghost use Rattle.evaluating.specs.Evaluate.{point_of};
 ghost use Rattle.component_layout.specs.Components.{number};
 ghost use Rattle.asking.specs.Form.{Evaluates};
 
+use crate::point::point;
+
 // Whether the bytes hold a model that 7 lets pass.
 #[unsafe(no_mangle)]
 pub extern "C" fn dw_check(model: &[u8], out: &mut [u8]) -> u32
@@ -34,5 +36,5 @@ pub extern "C" fn dw_evaluate_at(
 ) -> u32
     ensures { Evaluates model.now target.now (point_of (number x) (number y) (number z)) out.old out.new result }
 {
-    asking::form::dw_evaluate_at(model, target, x, y, z, out)
+    asking::form::dw_evaluate_at(model, target, point(x, y, z), out)
 }

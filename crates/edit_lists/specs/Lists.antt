@@ -1,10 +1,13 @@
 -- What the calls promise that begin a model, and that run a list of edits and ask a form after it. Definitions only.
-use Rattle.std.specs.Prelude.{ℕ, ◌≡◌, true, false, List, Float, length}
+use Rattle.std.specs.Prelude.{ℕ, ◌≡◌, true, false, List, Float, length, Option as Found, Result}
 use Rattle.std.proofs.Math.Option.{Option, none, some}
 use Rattle.std.specs.Float.{binary64}
 use Rattle.std.specs.Float.Ieee.{to_bits}
+use Rattle.tag.specs.declared.Tag.{Tag as Label}
 use Rattle.tag.specs.Tags.{Tag, empty}
 use Rattle.geometry.specs.declared.vec3f.Vec3.{Vec3}
+use Rattle.model.specs.declared.model_error.Refusal.{Refusal}
+use Rattle.model.specs.Answer.{answer_of}
 use Rattle.model.specs.Model.{Model, new, valid}
 use Rattle.model.specs.Edit.{Edit, done, refused}
 use Rattle.model.specs.Form.{Compiles, Number, Reply, bits, handed, Evaluated}
@@ -52,3 +55,10 @@ pub record AskedAfter (o : Option (List Edit)) (target : Tag) (p : Vec3) (s t ou
   pub model : (m : Model) (es : List Edit) → model_in s ≡ some m → o ≡ some es → r ≡ 0 → Holds (after es m) s t
   -- refused: not one byte of the model is changed
   pub kept : (r ≡ 0 → ⊥) → t ≡ s
+
+-- ---- what the helpers promise
+
+-- a new model is written over the bytes s, or nothing is, and 7
+pub record Begins (s t : List ℕ) (a : Result (Found Label) Refusal) : Type 0 where
+  pub room : length s ≡ 27200 → (answer_of a ≡ done) × Holds new s t
+  pub elsewhere : (length s ≡ 27200 → ⊥) → (answer_of a ≡ refused 7 empty 0) × (t ≡ s)

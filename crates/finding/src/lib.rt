@@ -9,8 +9,6 @@ use component::model_component::Component;
 use component_layout::component_numbers::ComponentWords;
 use component_layout::component_words::component_from;
 use layout::words::{read_text, read_word};
-use tag::at_most;
-use tag::bytes::same_bytes;
 
 // A table of rows in the bytes of a model. Each row begins with its tag.
 #[derive(Clone, Copy)]
@@ -45,8 +43,8 @@ impl Table {
         ensures { result ≡ counted self s.now }
     {
         match self {
-            Table::Components => at_most(read_word(s, 8) as usize, 64),
-            Table::Lists => at_most(read_word(s, 16) as usize, 128),
+            Table::Components => (read_word(s, 8) as usize).min(64),
+            Table::Lists => (read_word(s, 16) as usize).min(128),
         }
     }
 
@@ -54,12 +52,7 @@ impl Table {
     pub fn row_of(self, s: &[u8], t: &[u8]) -> Option<usize>
         ensures { RowSought s.now (row_at self) (counted self s.now) t.now result }
     {
-        for i in 0..self.count(s) {
-            if same_bytes(read_text(s, self.start() + self.size() * i), t) {
-                return Some(i);
-            }
-        }
-        None
+        (0..self.count(s)).find(|i| read_text(s, self.start() + self.size() * *i) == t)
     }
 }
 

@@ -1,18 +1,15 @@
 -- What decoding answers, and bytes that hold a model. Definitions only.
-use Rattle.std.specs.Prelude.{ℕ, ◌+◌, ◌*◌, ◌≤◌, ◌<◌, ◌≡◌, true, List, length, get_or}
-use Rattle.std.proofs.Math.Option
+use Rattle.std.specs.Prelude.{ℕ, ◌+◌, ◌*◌, ◌≤◌, ◌<◌, ◌≡◌, true, List, length, get_or, Option}
 use Rattle.std.proofs.Math.Option.{some}
-use Rattle.model.specs.Model.{Model, Same, valid, new}
+use Rattle.model.specs.declared.implicit_model.Model.{Model as Record}
+use Rattle.model.specs.Model.{Model, Same, valid}
 use Rattle.model.specs.View.{view, fits}
-use Rattle.layout.specs.Some.{is_some}
-use Rattle.model_bytes.specs.declared.decode.Decoded.{Decoded}
 use Rattle.model_bytes.specs.ModelBytes.{model_in}
+use Rattle.model_bytes.specs.Steps.{Read}
 
--- decoded: whether the bytes hold a model, and a record of it; of a new model where they hold none
-pub record Decodes (s : List ℕ) (r : Decoded) : Type 0 where
-  pub answer : r.ok ≡ is_some (model_in s)
-  pub holds : view r.model ≡ Option.get_or (model_in s) new
-  pub sizes : fits r.model ≡ true
+-- decoded: a record within its sizes of the model that the bytes hold; or that they hold none
+abbrev pub Decodes : List ℕ → Option Record → Type 0
+Decodes s r = Read view fits (model_in s) r
 
 -- t is s but for the header and the first n and k rows of its tables
 pub record Spares (n k : ℕ) (s t : List ℕ) : Type 0 where

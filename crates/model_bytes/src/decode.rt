@@ -1,9 +1,9 @@
 // Reading a model from bytes: what stands at a place, then rows, then the model.
-ghost use Rattle.std.specs.Prelude.{◌≡◌, ◌+◌, ◌≤◌, length, take, drop};
+ghost use Rattle.std.specs.Prelude.{◌≡◌, ◌+◌, ◌≤◌, ◌<◌, ℕ, length, take, drop, get_or, Option, Some, None, MatchOption};
 ghost use Rattle.tag.specs.View.{bytes_of, tag_fits};
-ghost use Rattle.model.specs.View.{place_of, place_fits, component_of, entry_fits, list_of, list_fits, rows, view, fits};
+ghost use Rattle.model.specs.View.{place_of, place_fits, component_of, entry_fits, list_of, list_fits, rows};
 ghost use Rattle.rows.specs.Rows.{text_in, tag_in, place_in, rows_in, place_row};
-ghost use Rattle.model_bytes.specs.ModelBytes.{entry_in, list_in, headed, entry_row, list_row, model_in};
+ghost use Rattle.model_bytes.specs.ModelBytes.{entry_in, list_in, headed, entry_row, list_row};
 ghost use Rattle.model_bytes.specs.Steps.{Read, all_fit};
 ghost use Rattle.model_bytes.specs.Calls.{Decodes};
 
@@ -13,12 +13,7 @@ use model::implicit_model::{ComponentEntry, InputList, Model, Place};
 use row_reading::{is_blank, read_component};
 use tag::Tag;
 
-#[derive(Clone, Copy)]
-pub struct Decoded {
-    pub ok: bool,
-    pub model: Model,
-}
-
+// Kept: `try_into` answers a Result, which this would have to take apart where it can't fail.
 fn copy_32(s: &[u8], at: usize) -> [u8; 32]
     requires { at + 32 ≤ length s.now }
     ensures { result ≡ take 32 (drop at s.now) }
@@ -29,6 +24,7 @@ fn copy_32(s: &[u8], at: usize) -> [u8; 32]
 }
 
 // The tag of n bytes in the 32 bytes at a place.
+// Kept: the room that a reader needs, as a clause of each. A type of a place with its bytes would hold another room at each width (32, 40, 88, 120, 168), and be made anew for each part.
 fn read_text(s: &[u8], at: usize, n: usize) -> Option<Tag>
     requires { at + 32 ≤ length s.now }
     ensures { Read bytes_of tag_fits (text_in n s.now at) result }
@@ -73,16 +69,28 @@ fn read_entry(s: &[u8], at: usize) -> Option<ComponentEntry>
     Some(ComponentEntry { tag, component })
 }
 
+// The first n rows of a table, each as it is read; those past them are unused.
+fn read_rows<T: Copy, const N: usize, F: Fn(usize) -> Option<T>>(
+    unused: T,
+    n: usize,
+    read: F,
+) -> Option<[T; N]>
+    requires { (n ≤ N) × ((i : ℕ) → i < n → F.pre read i) }
+    ensures { MatchOption result ((i : ℕ) × (o : Option T) × (i < n) × (o ≡ None) × F.post read i o) (λ table. (length table ≡ N) × ((i : ℕ) → i < n → F.post read i (Some (get_or table i unused)))) }
+{
+    let mut table = [unused; N];
+    for i in 0..n {
+        table[i] = read(i)?;
+    }
+    Some(table)
+}
+
 // The first n of three places.
 fn read_places(s: &[u8], at: usize, n: usize) -> Option<[Place; 3]>
     requires { (n ≤ 3) × (at + 120 ≤ length s.now) }
     ensures { Read (rows place_of n) (all_fit place_fits n) (rows_in (place_row s.now at) n) result }
 {
-    let mut places = [None; 3];
-    for i in 0..n {
-        places[i] = read_place(s, at + 40 * i)?;
-    }
-    Some(places)
+    read_rows(None, n, |i| read_place(s, at + 40 * i))
 }
 
 fn read_list(s: &[u8], at: usize) -> Option<InputList>
@@ -110,11 +118,7 @@ fn read_components(s: &[u8], n: usize) -> Option<[ComponentEntry; 64]>
         tag: Tag::default(),
         component: Component::Constant(0.0),
     };
-    let mut entries = [unused; 64];
-    for i in 0..n {
-        entries[i] = read_entry(s, 64 + 88 * i)?;
-    }
-    Some(entries)
+    read_rows(unused, n, |i| read_entry(s, 64 + 88 * i))
 }
 
 // The first n input lists.
@@ -127,11 +131,7 @@ fn read_lists(s: &[u8], n: usize) -> Option<[InputList; 128]>
         count: 0,
         places: [None; 3],
     };
-    let mut lists = [unused; 128];
-    for i in 0..n {
-        lists[i] = read_list(s, 5696 + 168 * i)?;
-    }
-    Some(lists)
+    read_rows(unused, n, |i| read_list(s, 5696 + 168 * i))
 }
 
 // Whether the length, the version and the counts are a model's.
@@ -151,8 +151,8 @@ pub fn is_headed(s: &[u8]) -> bool
 }
 
 // The model that the bytes hold.
-fn read_model(bytes: &[u8]) -> Option<Model>
-    ensures { Read view fits (model_in bytes.now) result }
+pub fn decode(bytes: &[u8]) -> Option<Model>
+    ensures { Decodes bytes.now result }
 {
     if !is_headed(bytes) {
         return None;
@@ -169,17 +169,4 @@ fn read_model(bytes: &[u8]) -> Option<Model>
         list_count,
         default,
     })
-}
-
-// The model that the bytes hold; a new one, and not ok, where they hold none.
-pub fn decode(bytes: &[u8]) -> Decoded
-    ensures { Decodes bytes.now result }
-{
-    match read_model(bytes) {
-        Some(model) => Decoded { ok: true, model },
-        None => Decoded {
-            ok: false,
-            model: held::reading::new(),
-        },
-    }
 }

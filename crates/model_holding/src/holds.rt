@@ -72,6 +72,7 @@ fn is_list(s: &[u8], at: usize) -> bool
 }
 
 // The first n components.
+// Kept: one line for each table; a function over both would take the closure that is all that stands here.
 fn are_entries(s: &[u8], n: usize) -> bool
     requires { n ≤ 64 }
     ensures { result ≡ true → Held (rows_in (entry_row s.now) n) }

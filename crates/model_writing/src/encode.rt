@@ -29,6 +29,7 @@ fn write_list(s: &mut [u8], at: usize, l: &InputList)
     write_places(s, at + 48, *l);
 }
 
+// Kept: two loops of one line. One over both tables would take where it begins, a row's width and the writer, with clauses for what each call leaves; and the length of the bytes is a clause of each, since a type for it would be made and taken apart at each call.
 fn write_components(s: &mut [u8], table: &[ComponentEntry])
     requires { (length table.now ≤ 64) × ((length s.old ≡ 27200) × (every (map entry_fits table.now) ≡ true)) }
     ensures { Wrote (λ u. rows_in (entry_row u) (length table.now)) (some (map component_of table.now)) 64 (88 * length table.now) s.old s.new }

@@ -2,23 +2,31 @@
 #![tactic(auto)]
 
 ghost use Rattle.tag.specs.View.{bytes_of};
-ghost use Rattle.opened.specs.Said.{plain, Says, Opens};
+ghost use Rattle.model.specs.Answer.{refusal_of};
+ghost use Rattle.report.specs.Report.{of_answer};
+ghost use Rattle.opened.specs.Said.{plain, of_number, Says, Opens, Reads};
 
-use model_bytes::decode::{Decoded, decode};
+use model::implicit_model::Model;
+use model::model_error::{ModelError, Refusal};
+use model_bytes::decode::decode;
 use report::write_report;
 use tag::Tag;
 use validity::is_valid;
 
 // The model that the bytes hold, where 7 lets it pass.
-pub fn opened(bytes: &[u8]) -> Decoded
+pub fn opened(bytes: &[u8]) -> Result<Model, Refusal>
     ensures { Opens bytes.now result }
 {
-    let d = decode(bytes);
-    if !d.ok {
-        return d;
-    }
-    let ok = is_valid(&d.model);
-    Decoded { ok, model: d.model }
+    decode(bytes)
+        .filter(is_valid)
+        .ok_or(Refusal::plain(ModelError::InvalidModel))
+}
+
+// The model that the bytes hold, whether or not 7 lets it pass.
+pub fn read_model(bytes: &[u8]) -> Result<Model, Refusal>
+    ensures { Reads bytes.now result }
+{
+    decode(bytes).ok_or(Refusal::plain(ModelError::InvalidModel))
 }
 
 // Writes the report, and answers its code.
@@ -33,6 +41,22 @@ pub fn say(out: &mut [u8], code: u32, index: u64, t: Tag, number: u64) -> u32
 pub fn say_code(out: &mut [u8], code: u32) -> u32
     ensures { Says (plain code) out.old out.new result }
 {
-    let t = tag::empty_tag();
-    say(out, code, 0, t, 0)
+    say(out, code, 0, Tag::default(), 0)
+}
+
+// Says a refusal, with the tag and the index that it carries.
+pub fn say_refusal(out: &mut [u8], r: Refusal) -> u32
+    ensures { Says (of_answer (refusal_of r)) out.old out.new result }
+{
+    say(out, u32::from(r.error), r.index as u64, r.tag, 0)
+}
+
+// Says the number answered, or the refusal.
+pub fn say_number(out: &mut [u8], answer: Result<u64, Refusal>) -> u32
+    ensures { Says (of_number answer) out.old out.new result }
+{
+    match answer {
+        Ok(number) => say(out, 0, 0, Tag::default(), number),
+        Err(refusal) => say_refusal(out, refusal),
+    }
 }

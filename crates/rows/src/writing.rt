@@ -14,6 +14,7 @@ use model::implicit_model::{InputList, Place};
 use tag::Tag;
 
 // Whether n bytes from a place on are in the slice.
+// Kept: each writer asks for room and then puts. One that takes what it puts as a closure has the same line, `if_room(s, at, 40, |s| put_tag(s, at, t))`, and a clause for what the closure leaves.
 fn has_room(s: &[u8], at: usize, n: usize) -> bool
     ensures { result ≡ leb (at + n) (length s.now) }
 {
@@ -40,6 +41,7 @@ pub fn write_number(s: &mut [u8], at: usize, x: u64)
 }
 
 // Writes n bytes that are 0.
+// Kept: std's `fill`, and below `copy_from_slice`, under a clause that says what is read there afterwards.
 fn clear(s: &mut [u8], at: usize, n: usize)
     requires { at + n ≤ length s.old }
     ensures { Wrote (λ t. blank t at n) true at n s.old s.new }

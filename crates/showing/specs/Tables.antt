@@ -1,9 +1,12 @@
 -- What the calls answer that read a model's default, components and input lists. Definitions only.
-use Rattle.std.specs.Prelude.{ℕ, ◌+◌, ◌≡◌, cond, List, length}
+use Rattle.std.specs.Prelude.{ℕ, ◌+◌, ◌≡◌, cond, List, length, Result, Ok, Err}
 use Rattle.std.proofs.Math.Option.{Option, none, some}
 use Rattle.std.proofs.Math.ListN.{get_elem?}
-use Rattle.tag.specs.Tags.{Tag, overlong}
+use Rattle.tag.specs.Tags.{Tag, overlong, empty}
 use Rattle.component.specs.declared.model_component.Component.{Component}
+use Rattle.model.specs.declared.model_error.Refusal.{Refusal}
+use Rattle.model.specs.Answer.{refusal_of}
+use Rattle.model.specs.Edit.{refused as edit_refused}
 use Rattle.model.specs.Model.{Place, Model, component, list}
 use Rattle.rows.specs.Rows.{component_in, places_in}
 use Rattle.rows.specs.Written.{Writes}
@@ -87,3 +90,10 @@ PlacesOf (held u ps) s t = Writes (λ v. places_in (length ps) v 0) (some ps) 0 
 pub record ShowsList (f : Finding (List Place)) (places placed out after : List ℕ) (code : ℕ) : Type 0 where
   pub shown : PlacesOf f places placed
   pub says : Says (of_list f) out after code
+
+-- ---- what the helpers promise
+
+-- a record of what is found, where anything is; or a refusal that carries nothing
+abbrev pub Finds : {A R : Type 0} → (R → Option (Tag × A)) → Finding A → Result R Refusal → Type 0
+Finds read f (Ok r) = f ≡ at_position (read r)
+Finds read f (Err e) = (n : ℕ) × (f ≡ refused n) × (refusal_of e ≡ edit_refused n empty 0)

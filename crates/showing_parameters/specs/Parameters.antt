@@ -1,5 +1,5 @@
 -- What the calls answer that read a parameter, and those that name a kind and its parameters. Definitions only.
-use Rattle.std.specs.Prelude.{ℕ, ◌+◌, ◌≡◌, cond, List, Option as Found, Some, None}
+use Rattle.std.specs.Prelude.{ℕ, ◌+◌, ◌≡◌, cond, List, Option as Found, Some, None, Result, Ok, Err}
 use Rattle.std.proofs.Math.Option.{Option, none, some}
 use Rattle.tag.specs.Tags.{Tag, overlong, empty}
 use Rattle.component.specs.Value.{input_count}
@@ -10,6 +10,9 @@ use Rattle.component.specs.declared.parameter.Data.TheVariants.{Value, Vec3 as V
 use Rattle.component.specs.declared.parameter.DataType.{DataType}
 use Rattle.component.specs.declared.parameter.DataType.TheVariants.{Value as TakesValue, Vec3 as TakesVector}
 use Rattle.component.specs.declared.model_component.Component.{Component}
+use Rattle.model.specs.declared.model_error.Refusal.{Refusal}
+use Rattle.model.specs.Answer.{refusal_of}
+use Rattle.model.specs.Edit.{refused}
 use Rattle.model.specs.Model.{Model, component}
 use Rattle.component_layout.specs.Components.{component_from}
 use Rattle.component_layout.specs.Numbers.{bits_of}
@@ -86,3 +89,10 @@ of_entry (Some e) = answered e.0 (takes e.1)
 abbrev pub of_parameter : Option Component → ℕ → Report
 of_parameter none i = plain 0
 of_parameter (some c) i = of_entry (parameter_at c i)
+
+-- ---- what the helpers promise
+
+-- the data of the component, or a refusal, which has no index
+abbrev pub Reads : Asked → Result (Found Data) Refusal → Type 0
+Reads a (Ok d) = a ≡ read d
+Reads a (Err e) = (n : ℕ) × (t : Tag) × (a ≡ unread n t) × (refusal_of e ≡ refused n t 0)

@@ -4,7 +4,7 @@
 ghost use Rattle.std.specs.Prelude.{◌≡◌};
 ghost use Rattle.component_layout.specs.Components.{component_read};
 ghost use Rattle.opened.specs.Said.{Says};
-ghost use Rattle.showing_parameters.specs.Parameters.{read, parameter_in, ShowsParameter, kind_of, of_kind, takes, of_parameter};
+ghost use Rattle.showing_parameters.specs.Parameters.{read, parameter_in, Reads, ShowsParameter, kind_of, of_kind, takes, of_parameter};
 
 use component::model_component::Component;
 use component::parameter::{Data, DataType};
@@ -12,30 +12,39 @@ use component_layout::component_numbers::ComponentWords;
 use component_layout::component_words::component_from;
 use float::bits::bits_of;
 use held::reading::get_component;
+use model::model_error::{ModelError, Refusal};
 use naming::{parameter, type_name};
-use opened::{opened, say, say_code};
+use opened::{opened, say, say_code, say_refusal};
 use parameter_reading::read_parameter;
 use rows::writing::write_three;
-use tag::{Tag, tag_of};
+use tag::Tag;
 
 // Answers the data under a name: 1 a value, 2 a vec3, 0 where there is none.
+// Kept: these three numbers, which the C interface fixes.
 fn say_data(r: Option<Data>, words: &mut [u8], out: &mut [u8]) -> u32
     ensures { ShowsParameter (read r) words.old words.new out.old out.new result }
 {
-    let Some(d) = r else {
-        return say_code(out, 0);
-    };
-    match d {
-        Data::Value(x) => {
+    match r {
+        Some(Data::Value(x)) => {
             write_three(words, 0, bits_of(x), 0, 0);
             say(out, 0, 0, Tag::default(), 1)
         }
-        Data::Vec3(v) => {
+        Some(Data::Vec3(v)) => {
             write_three(words, 0, bits_of(v.x), bits_of(v.y), bits_of(v.z));
             say(out, 0, 0, Tag::default(), 2)
         }
-        Data::Boolean(_) => say_code(out, 0),
+        Some(Data::Boolean(_)) | None => say_code(out, 0),
     }
+}
+
+// The data under a name of the component with that tag, where it has any.
+fn tagged_data(model: &[u8], tag: &[u8], name: &[u8]) -> Result<Option<Data>, Refusal>
+    ensures { Reads (parameter_in model.now tag.now name.now) result }
+{
+    let m = opened(model)?;
+    let tag = Tag::try_from(tag)?;
+    let c = get_component(&m, tag).ok_or(Refusal::of(ModelError::MissingTag, tag))?;
+    Ok(read_parameter(c, name))
 }
 
 // The parameter of a component.
@@ -48,18 +57,10 @@ pub fn dw_read_parameter(
 ) -> u32
     ensures { ShowsParameter (parameter_in model.now tag.now name.now) words.old words.new out.old out.new result }
 {
-    let d = opened(model);
-    if !d.ok {
-        return say_code(out, 7);
+    match tagged_data(model, tag, name) {
+        Ok(data) => say_data(data, words, out),
+        Err(refusal) => say_refusal(out, refusal),
     }
-    if 32 < tag.len() {
-        return say_code(out, 1);
-    }
-    let t = tag_of(tag);
-    let Some(c) = get_component(&d.model, t) else {
-        return say(out, 12, 0, t, 0);
-    };
-    say_data(read_parameter(c, name), words, out)
 }
 
 // The component of a kind, whose numbers are 0.
@@ -86,6 +87,7 @@ pub fn dw_type_name(kind: u64, out: &mut [u8]) -> u32
     say(out, 0, 0, type_name(c), c.input_count() as u64 + 1)
 }
 
+// What a parameter takes, by number. Kept: the C interface fixes these two numbers.
 fn type_number(d: DataType) -> u64
     ensures { result ≡ takes d }
 {

@@ -1,9 +1,9 @@
-// 7 straight from the bytes of a model, and the wires: which component stands in each place of a component's list. Sound and not complete: a no says nothing.
+// 7 straight from the bytes of a model, and the wires: which component stands in each place of a component's list. It may refuse a model that 7 lets pass, and lets none pass that 7 refuses.
 #![tactic(auto)]
 
 mod names;
 
-ghost use Rattle.std.specs.Prelude.{◌≡◌, true, ◌+◌, ◌*◌, ◌≤◌, ◌<◌, get_or, IfSome};
+ghost use Rattle.std.specs.Prelude.{◌≡◌, true, ◌+◌, ◌*◌, ◌≤◌, ◌<◌, min, length, get_or, IfSome};
 ghost use Rattle.layout.specs.Words.{word};
 ghost use Rattle.standing.specs.Standing.{Names, PlaceNames, Listing, Filled, DefaultNamed, Stood, Owned, Wires, Stands, Passing};
 
@@ -11,7 +11,6 @@ use crate::names::{Keys, key};
 use finding::{Table, component_in_row};
 use layout::words::{read_text, read_word};
 use model_holding::holds::holds;
-use tag::bytes::same_bytes;
 
 // What stands in a place of a component's list.
 #[derive(Clone, Copy)]
@@ -35,19 +34,27 @@ struct Components<'a> {
     keys: &'a Keys,
 }
 
-impl<'a> Components<'a> {
-    // The row with that tag, whose key is given.
-    fn keyed(&self, key: u64, tag: &[u8]) -> Option<usize>
-        ensures { IfSome result (Names self.now.bytes.now self.now.keys.now.count tag.now) }
-    {
-        let i = self.keys.row_of(key)?;
-        if same_bytes(read_text(self.bytes, 64 + 88 * i), tag) {
-            Some(i)
-        } else {
-            None
-        }
-    }
+// The row with that tag, by the keys of the rows, of which its own is given.
+fn keyed(bytes: &[u8], keys: &[u64], key: u64, tag: &[u8]) -> Option<usize>
+    requires { length keys.now ≤ 128 }
+    ensures { IfSome result (Names bytes.now (length keys.now) tag.now) }
+{
+    let i = keys.iter().position(|k| *k == key)?;
+    (read_text(bytes, 64 + 88 * i) == tag).then_some(i)
+}
 
+// The row of a tag in a model's bytes, by the keys of the first n rows: any keys will do. None too where n is past the table.
+// Kept: an array and a count, for memory is fixed, and a count past the table is legal input.
+pub fn component_of_tag(bytes: &[u8], keys: &[u64; 128], n: usize, tag: &[u8]) -> Option<usize>
+    ensures { IfSome result (Names bytes.now (min n 64) tag.now) }
+{
+    if 64 < n {
+        return None;
+    }
+    keyed(bytes, &keys[..n], key(tag, 0), tag)
+}
+
+impl<'a> Components<'a> {
     // The row of the component that a place names.
     fn named_at(&self, at: usize) -> Option<usize>
         requires { at < 27200 }
@@ -58,7 +65,12 @@ impl<'a> Components<'a> {
             return None;
         }
         let tag = self.bytes.get(at + 8..at + 7 + len)?;
-        self.keyed(key(self.bytes, at + 8), tag)
+        keyed(
+            self.bytes,
+            self.keys.as_slice(),
+            key(self.bytes, at + 8),
+            tag,
+        )
     }
 
     // Whether the default is none, or names a component.
@@ -68,7 +80,7 @@ impl<'a> Components<'a> {
         read_word(self.bytes, 24) == 0 || self.named_at(24).is_some()
     }
 
-    // The list of the component in a row.
+    // The row of the list of the component in a row.
     fn list_of(&self, lists: &Keys, i: usize) -> Result<Option<usize>, Untold>
         requires { i < 128 }
         ensures { Listing self.now.bytes.now lists.now.of lists.now.count (get_or self.now.keys.now.of i 0) i result }
@@ -78,11 +90,7 @@ impl<'a> Components<'a> {
         };
         let list = read_text(self.bytes, 5696 + 168 * j);
         let component = read_text(self.bytes, 64 + 88 * i);
-        if same_bytes(list, component) {
-            Ok(Some(j))
-        } else {
-            Err(Untold)
-        }
+        (list == component).then_some(Some(j)).ok_or(Untold)
     }
 
     // The component in a place of a list, which has so many.
@@ -159,9 +167,7 @@ impl Standing {
     pub fn row_of(&self, bytes: &[u8], tag: &[u8]) -> Option<usize>
         ensures { IfSome result (Names bytes.now self.now.keys.count tag.now) }
     {
-        let keys = &self.keys;
-        let components = Components { bytes, keys };
-        components.keyed(key(tag, 0), tag)
+        component_of_tag(bytes, &self.keys.of, self.keys.count, tag)
     }
 }
 

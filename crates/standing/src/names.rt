@@ -1,5 +1,5 @@
 // Tags in bytes, by a number each, their key: tags with unequal keys are unequal.
-ghost use Rattle.std.specs.Prelude.{◌≡◌, true, ◌≤◌, ◌<◌};
+ghost use Rattle.std.specs.Prelude.{◌≡◌, true, ◌≤◌, ◌<◌, take};
 ghost use Rattle.finding.specs.Rows.{counted, row_at};
 ghost use Rattle.standing.specs.Names.{key_in, Keyed, Sought, Apart};
 
@@ -20,7 +20,7 @@ pub(crate) fn key(s: &[u8], at: usize) -> u64
 }
 
 // The keys of the tags in the rows of a table.
-// Kept: an array with its count, since there is no heap.
+// Kept: memory is fixed, so the keys stand in an array with their count beside it.
 #[derive(Clone, Copy)]
 pub struct Keys {
     pub(crate) of: [u64; 128],
@@ -29,7 +29,7 @@ pub struct Keys {
 }
 
 impl Keys {
-    // Of the rows that are counted.
+    // Reads the keys of the rows that are counted.
     pub(crate) fn read(s: &[u8], table: Table) -> Keys
         ensures { (result.count ≡ counted table s.now) × Keyed s.now (row_at table) result.count result.of }
     {
@@ -41,22 +41,24 @@ impl Keys {
         Keys { of, count }
     }
 
+    // The keys of the rows that are counted.
+    pub(crate) fn as_slice(&self) -> &[u64]
+        ensures { result.now ≡ take self.now.count self.now.of }
+    {
+        &self.of[..self.count]
+    }
+
     // The row of a key.
     pub(crate) fn row_of(&self, key: u64) -> Option<usize>
         ensures { Sought self.now.of self.now.count key result }
     {
-        self.of[..self.count].iter().position(|k| *k == key)
+        self.as_slice().iter().position(|k| *k == key)
     }
 
     // Whether no two are the same.
     pub(crate) fn are_apart(&self) -> bool
         ensures { result ≡ true → Apart self.now.of self.now.count }
     {
-        for i in 0..self.count {
-            if self.of[..i].contains(&self.of[i]) {
-                return false;
-            }
-        }
-        true
+        (0..self.count).all(|i| !self.of[..i].contains(&self.of[i]))
     }
 }

@@ -1,8 +1,7 @@
 -- What the helpers of the calls promise. Definitions only.
-use Rattle.std.specs.Prelude.{ℕ, ◌≡◌, Bool, cond, List, length}
-use Rattle.tag.specs.Tags.{empty}
+use Rattle.std.specs.Prelude.{ℕ, ◌≡◌, Bool, List, length}
 use Rattle.model.specs.declared.implicit_model.Model.{Model as Record}
-use Rattle.model.specs.Edit.{Answer, refused}
+use Rattle.model.specs.Edit.{Answer}
 use Rattle.model.specs.Form.{Reply}
 use Rattle.model.specs.Answer.{answer_of}
 use Rattle.edit.specs.declared.Edited.{Edited}
@@ -32,7 +31,7 @@ pub record Written (n : Record) (s t : List ℕ) (r : ℕ) : Type 0 where
   pub taken : r ≡ 0 → Put n s t
   pub kept : (r ≡ 0 → ⊥) → t ≡ s
 
--- what a call does with an edited model: 7 where the bytes held none
-pub record Stored (held : Bool) (x : Edited) (s t out after : List ℕ) (r : ℕ) : Type 0 where
-  pub told : Told (cond held (answer_of x.answer) (refused 7 empty 0)) out after r
+-- what a call does with an edited model
+pub record Stored (x : Edited) (s t out after : List ℕ) (r : ℕ) : Type 0 where
+  pub told : Told (answer_of x.answer) out after r
   pub written : Written x.model s t r

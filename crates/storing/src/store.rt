@@ -8,7 +8,7 @@ ghost use Rattle.storing.specs.Steps.{Told, Replied, Written, Stored};
 
 use edit::Edited;
 use model::implicit_model::Model;
-use model::model_error::{Answer, Refusal};
+use model::model_error::{Answer, ModelError, Refusal};
 use model_writing::encode::encode;
 use report::write_report;
 use tag::Tag;
@@ -25,8 +25,7 @@ pub fn tell_done(out: &mut [u8]) -> u32
 pub fn tell_7(out: &mut [u8]) -> u32
     ensures { Told (refused 7 [] 0) out.old out.new result }
 {
-    write_report(out, 7, 0, Tag::default(), 0);
-    7
+    tell_refused(Refusal::plain(ModelError::InvalidModel), out)
 }
 
 // Of an edit that made a tag.
@@ -71,7 +70,7 @@ pub fn tell_reply(reply: Result<u64, Refusal>, out: &mut [u8]) -> u32
 }
 
 // Writes the model after a call that is taken.
-// Kept: the model by value, for a lent one doesn't show the sizes of its tables, which the clause tells.
+// Kept: the model by value. With `&Model` the goal of `Written` that its tables have 64 and 128 rows is left open, for an array behind a reference doesn't tell its length.
 pub fn put_model(m: Model, code: u32, model: &mut [u8])
     ensures { Written m model.old model.new code }
 {
@@ -80,13 +79,10 @@ pub fn put_model(m: Model, code: u32, model: &mut [u8])
     }
 }
 
-// How an edit ends: bytes that held no model are 7, whatever the edit of a new one answered.
-pub fn store(held: bool, r: Edited, model: &mut [u8], out: &mut [u8]) -> u32
-    ensures { Stored held r model.old model.new out.old out.new result }
+// How an edit of a model that bytes held ends.
+pub fn store(r: Edited, model: &mut [u8], out: &mut [u8]) -> u32
+    ensures { Stored r model.old model.new out.old out.new result }
 {
-    if !held {
-        return tell_7(out);
-    }
     let code = tell(r.answer, out);
     put_model(r.model, code, model);
     code

@@ -3,26 +3,25 @@ use Prim.Native.Nat.{ℕ}
 use mathlib.Core.Path.{◌≡◌, refl, sym, ap, subst, ◌∙◌}
 use mathlib.Core.Bool.{Bool, true, false, not}
 use mathlib.Core.List.{List}
-use mathlib.Core.Option.{Option}
-use lib.Ieee.{Float}
-use Rattle.std.specs.Prelude.{Result, Ok, Err}
+use mathlib.Core.Option.{Option, none}
+use Rattle.std.specs.Prelude.{Some, Result, Ok, Err, IsErrAnd}
 use Rattle.tag.specs.Tags.{Tag, empty}
-use Rattle.tag.specs.View.{bytes_of}
 use Rattle.geometry.specs.declared.vec3f.Vec3.{Vec3}
 use Rattle.model.specs.declared.implicit_model.Model.{Model as Record}
 use Rattle.model.specs.declared.model_error.Refusal.{Refusal}
-use Rattle.model.specs.Answer.{number_of}
+use Rattle.model.specs.Answer.{refusal_of}
+use Rattle.model.specs.Edit.{Answer, done, made, refused}
 use Rattle.model.specs.Model.{Model}
-use Rattle.model.specs.Form.{invalid, handed, bits, Evaluated, refused_by}
+use Rattle.model.specs.Form.{Reply, invalid, handed, bits, Evaluated, refused_by}
 use Rattle.model.specs.View.{view, fits, passes}
 use Rattle.model.proofs.Laws.Bool.{true→T}
-use Rattle.evaluating.specs.Evaluate.{point_of, reply_of, EvaluatesAs}
-use Rattle.model_bytes.specs.declared.decode.Decoded.{Decoded}
+use Rattle.evaluating.specs.Evaluate.{reply_of, EvaluatesAs}
+use Rattle.model_bytes.specs.ModelBytes.{model_in}
 use Rattle.model_bytes.specs.Calls.{Decodes}
-use Rattle.report.specs.Report.{Report, of_reply}
+use Rattle.report.specs.Report.{of_reply}
 use Rattle.direct.specs.Evaluate.{EvaluatesIn}
-use Rattle.opened.specs.Said.{plain, Says}
-use Rattle.opened.proofs.Laws.Said.{says_as, unheld, held, judged}
+use Rattle.opened.specs.Said.{of_number, Says}
+use Rattle.opened.proofs.Laws.Said.{says_as, judged}
 use Rattle.asking.specs.Form.{Replies, Evaluates}
 
 -- ---- 7 judged on the record and on the model
@@ -37,39 +36,28 @@ module _ (m : Record) (t : Tag) (fit : fits m ≡ true) where
 
 -- ---- dw_evaluate_at
 
-module _ {s : List ℕ} {d : Decoded} {out after : List ℕ} {code : ℕ} (t : Tag) (p : Vec3) (x : Decodes s d) where
-  pub evaluate_7 : d.ok ≡ false → Says (plain 7) out after code → Evaluates s t p out after code
-  evaluate_7 e q = record {
-    reply = handed 7 empty 0;
-    defined = subst (λ (o : Option Model). Replies o t p (handed 7 empty 0)) (sym (unheld x e)) refl;
-    says = q;
-  }
+-- a refusal as a reply
+abbrev reply : Answer → Reply
+reply (refused n u i) = handed n u i
+reply done = handed 0 empty 0
+reply (made u) = handed 0 empty 0
 
-  module _ (e : d.ok ≡ true) where
-    replied : {r : Result ℕ Refusal} → EvaluatesAs d.model t p r → Says (of_reply (reply_of r)) out after code → Evaluates s t p out after code
-    replied {r} h q = record {
-      reply = reply_of r;
-      defined = subst (λ (o : Option Model). Replies o t p (reply_of r)) (sym (held x e)) (evaluated d.model t x.sizes h);
-      says = q;
-    }
+module _ (s : List ℕ) (t : Tag) (p : Vec3) where
+  -- straight from the bytes
+  pub replied_direct : {b : ℕ} → EvaluatesIn s t p b → Replies (model_in s) t p (bits b)
+  replied_direct {b} d = subst (λ (o : Option Model). Replies o t p (bits b)) (sym d.is) d.answers
 
-    pub evaluate_number : {b : ℕ} {u : Tag} → EvaluatesAs d.model t p (Ok b) → u ≡ empty → Says (record { code = 0; index = 0; tag = u; number = b }) out after code → Evaluates s t p out after code
-    evaluate_number {b} h f q = replied h (says_as q (ap {B = Report} (λ (u : Tag). record { code = 0; index = 0; tag = u; number = b }) f))
+  -- a refusal handed on
+  pub replied_7 : (a : Result ℕ Refusal) (e : Refusal) → (model_in s ≡ none) × (refusal_of e ≡ refused 7 empty 0) → IsErrAnd a (λ x. x ≡ e) → Replies (model_in s) t p (reply_of a)
+  replied_7 (Ok b) e f h = absurd h
+  replied_7 (Err x) e f h = subst (λ (o : Option Model). Replies o t p (reply_of (Err x))) (sym f.0) (ap reply (ap refusal_of h ∙ f.1))
 
-    pub evaluate_refused : {r : Refusal} {k : ℕ} → EvaluatesAs d.model t p (Err r) → k ≡ number_of r.error → Says (record { code = k; index = r.index; tag = bytes_of r.tag; number = 0 }) out after code → Evaluates s t p out after code
-    evaluate_refused {r} h f q = replied h (says_as q (ap {B = Report} (λ (k : ℕ). record { code = k; index = r.index; tag = bytes_of r.tag; number = 0 }) f))
+  pub replied : (m : Record) → Decodes s (Some m) → {a : Result ℕ Refusal} → EvaluatesAs m t p a → Replies (model_in s) t p (reply_of a)
+  replied m x {a} h = subst (λ (o : Option Model). Replies o t p (reply_of a)) (sym x.0) (evaluated m t x.1 h)
 
--- straight from the bytes
-pub evaluate_direct : {s : List ℕ} {t u : Tag} {x y z : Float} {b : ℕ} {out after : List ℕ} {code : ℕ} → EvaluatesIn s t x y z b → u ≡ empty
-    → Says (record { code = 0; index = 0; tag = u; number = b }) out after code → Evaluates s t (point_of x y z) out after code
-evaluate_direct {t = t} {x = x} {y = y} {z = z} {b = b} d e q = record {
-  reply = bits b;
-  defined = subst (λ (o : Option Model). Replies o t (point_of x y z) (bits b)) (sym d.is) d.answers;
-  says = says_as q (ap (λ (u : Tag). record { code = 0; index = 0; tag = u; number = b }) e);
-}
+  number_reply : (a : Result ℕ Refusal) → of_number a ≡ of_reply (reply_of a)
+  number_reply (Ok b) = refl
+  number_reply (Err r) = refl
 
-pub point_as : {s : List ℕ} {t : Tag} {out after : List ℕ} {code : ℕ} (a b c : Float) {x y z : Float} → a ≡ x → b ≡ y → c ≡ z
-    → Evaluates s t (point_of a b c) out after code → Evaluates s t (point_of x y z) out after code
-point_as {s} {t} {out} {after} {code} a b c {x} {y} {z} e f g h =
-    subst (λ (q : Float). Evaluates s t (point_of x y q) out after code) g
-    (subst (λ (q : Float). Evaluates s t (point_of x q c) out after code) f (subst (λ (q : Float). Evaluates s t (point_of q b c) out after code) e h))
+  pub evaluates : (a : Result ℕ Refusal) {out after : List ℕ} {code : ℕ} → Replies (model_in s) t p (reply_of a) → Says (of_number a) out after code → Evaluates s t p out after code
+  evaluates a d q = record { reply = reply_of a; defined = d; says = says_as q (number_reply a) }

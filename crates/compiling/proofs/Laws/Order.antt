@@ -1,16 +1,17 @@
 -- A form's order. Assumes nothing.
 use Prim.Native.Nat.{ℕ, ◌+◌, ◌*◌, ◌≤◌, ◌<◌}
-use mathlib.Core.Path.{◌≡◌, refl, sym, ap, ap₂, subst, ◌∙◌}
+use mathlib.Core.Path.{◌≡◌, refl, sym, ap, subst, ◌∙◌}
 use mathlib.Core.Bool.{Bool, true, false, not}
 use mathlib.Core.List.{List, []}
-use mathlib.Core.Option.{Option, some}
+use mathlib.Core.Option.{Option, none, some}
 use native.Mathlib.Omega.{arith}
 use lib.ListN.{length, get_or, length-map, length-take, get_or-map}
+use Rattle.std.specs.Prelude.{Some, Result, Ok, Err, IsErrAnd}
 use Rattle.tag.specs.Tags.{Tag, empty}
 use Rattle.tag.specs.View.{bytes_of}
 use Rattle.model.specs.declared.implicit_model.Model.{Model as Record}
 use Rattle.model.specs.declared.model_error.Refusal.{Refusal}
-use Rattle.model.specs.Answer.{number_of}
+use Rattle.model.specs.Answer.{number_of, refusal_of}
 use Rattle.model.specs.Edit.{Answer, done, made, refused}
 use Rattle.model.specs.Model.{Model}
 use Rattle.model.specs.Form.{Compiling as Ending, ordered, stopped, Compiled, refusal, invalid}
@@ -27,13 +28,18 @@ use Rattle.rows.specs.Rows.{tag_in, rows_in}
 use Rattle.rows.specs.Written.{Wrote}
 use Rattle.rows.proofs.Laws.Local.{tag_local}
 use Rattle.rows.proofs.Laws.Writing.{rows-wrote-none, rows-wrote-more}
-use Rattle.model_bytes.specs.declared.decode.Decoded.{Decoded}
 use Rattle.model_bytes.specs.ModelBytes.{model_in}
 use Rattle.model_bytes.specs.Calls.{Decodes}
 use Rattle.report.specs.Report.{Report}
-use Rattle.opened.specs.Said.{plain, Says}
-use Rattle.opened.proofs.Laws.Said.{says_as, unheld, held, judged}
-use Rattle.compiling.specs.Order.{Ends, tag_row, OrderIn, Compiles, tags_of}
+use Rattle.opened.specs.Said.{answered, of_number, Says}
+use Rattle.opened.proofs.Laws.Said.{says_as, judged}
+use Rattle.compiling.specs.Order.{Ends, tag_row, OrderIn, Orders, ending_of, Compiles, tags_of}
+
+-- a refusal as an ending
+abbrev ending : Answer → Ending
+ending (refused n u i) = stopped n u i
+ending done = ordered
+ending (made u) = ordered
 
 -- ---- 7 judged on the record and on the model
 
@@ -41,11 +47,6 @@ module _ (m : Record) (t : Tag) (fit : fits m ≡ true) where
   refused_as : (r : Refusal) → RefusesAs m t r → Compiled (view m) t (stopped (number_of r.error) (bytes_of r.tag) r.index) []
   refused_as r x = go (passes m) refl
     where
-      ending : Answer → Ending
-      ending (refused n u i) = stopped n u i
-      ending done = ordered
-      ending (made u) = ordered
-
       go : (b : Bool) → passes m ≡ b → Compiled (view m) t (stopped (number_of r.error) (bytes_of r.tag) r.index) []
       go true e = x.fitting e
       go false e = subst (λ (y : Ending). Compiled (view m) t y []) (sym (ap ending (x.unfit e))) (refusal (invalid (true→T _ (ap not (judged m fit ∙ e)))))
@@ -98,36 +99,37 @@ order-none s = record { tags = λ y. record { kept = kept-none s 0 0; holds = re
 
 -- ---- dw_compile
 
-ends : {s : List ℕ} {d : Decoded} (t : Tag) → Decodes s d → d.ok ≡ true → (y : Ending) (o : List Tag) → Compiled (view d.model) t y o → Ends (model_in s) t y o
-ends t x e y o q = subst (λ (z : Option Model). Ends z t y o) (sym (held x e)) q
+ends : (s : List ℕ) (t : Tag) (m : Record) → model_in s ≡ some (view m) → (y : Ending) (o : List Tag) → Compiled (view m) t y o → Ends (model_in s) t y o
+ends s t m x y o q = subst (λ (z : Option Model). Ends z t y o) (sym x) q
 
-module _ {s : List ℕ} {d : Decoded} {order out after : List ℕ} {code : ℕ} (t : Tag) (x : Decodes s d) where
-  pub compile_7 : d.ok ≡ false → Says (plain 7) out after code → Compiles s t order order out after code
-  compile_7 e q = record {
-    ending = stopped 7 empty 0;
+module _ (s : List ℕ) (t : Tag) {order : List ℕ} where
+  -- a refusal handed on
+  pub orders_7 : {a : Result ℕ Refusal} (e : Refusal) → (model_in s ≡ none) × (refusal_of e ≡ refused 7 empty 0) → IsErrAnd a (λ x. x ≡ e) → Orders s t order order a
+  orders_7 {a = Ok n} e f p = absurd p
+  orders_7 {a = Err x} e f p = record {
     tags = [];
-    defined = subst (λ (o : Option Model). Ends o t (stopped 7 empty 0) []) (sym (unheld x e)) (refl, refl);
+    defined = subst (λ (o : Option Model). Ends o t (ending_of (Err x)) []) (sym f.0) (ap ending (ap refusal_of p ∙ f.1), refl);
     laid = order-none order;
-    says = q;
+    report = refl;
   }
 
-  module _ (e : d.ok ≡ true) where
-    pub compile_stopped : {r : Refusal} {k : ℕ} → RefusesAs d.model t r → k ≡ number_of r.error → Says (record { code = k; index = r.index; tag = bytes_of r.tag; number = 0 }) out after code
-        → Compiles s t order order out after code
-    compile_stopped {r} h q v = record {
-      ending = stopped (number_of r.error) (bytes_of r.tag) r.index;
+  module _ (m : Record) (x : Decodes s (Some m)) where
+    pub orders_refused : {a : Result ℕ Refusal} (e : Refusal) → RefusesAs m t e → IsErrAnd a (λ y. y ≡ e) → Orders s t order order a
+    orders_refused {a = Ok n} e h p = absurd p
+    orders_refused {a = Err r} e h p = record {
       tags = [];
-      defined = ends t x e (stopped (number_of r.error) (bytes_of r.tag) r.index) [] (refused_as d.model t x.sizes r h);
+      defined = ends s t m x.0 (ending_of (Err r)) [] (refused_as m t x.1 r (subst (RefusesAs m t) (sym p) h));
       laid = order-none order;
-      says = says_as v (ap {B = Report} (λ (n : ℕ). record { code = n; index = r.index; tag = bytes_of r.tag; number = 0 }) q);
+      report = refl;
     }
 
-    pub compile_ordered : {g : Graph} {written : List ℕ} {u : Tag} → OrdersAs d.model t g → OrderIn (tags_of d.model g) order written → u ≡ empty
-        → Says (record { code = 0; index = 0; tag = u; number = g.count }) out after code → Compiles s t order written out after code
-    compile_ordered {g} h w r v = record {
-      ending = ordered;
-      tags = tags_of d.model g;
-      defined = ends t x e ordered (tags_of d.model g) h.compiled;
+    pub orders : {g : Graph} {written : List ℕ} → OrdersAs m t g → OrderIn (tags_of m g) order written → Orders s t order written (Ok g.count)
+    orders {g} h w = record {
+      tags = tags_of m g;
+      defined = ends s t m x.0 ordered (tags_of m g) h.compiled;
       laid = w;
-      says = says_as v (ap₂ {C = Report} (λ (a : Tag) (k : ℕ). record { code = 0; index = 0; tag = a; number = k }) r (sym (tags-count d.model g (record { target = t; compiled = h }))));
+      report = ap {B = Report} (answered empty) (sym (tags-count m g (record { target = t; compiled = h })));
     }
+
+  pub compiles : {a : Result ℕ Refusal} {written out after : List ℕ} {code : ℕ} → Orders s t order written a → Says (of_number a) out after code → Compiles s t order written out after code
+  compiles {a} o q = record { ending = ending_of a; tags = o.tags; defined = o.defined; laid = o.laid; says = says_as q o.report }

@@ -1,6 +1,6 @@
 -- `add_input` meets its contract. Assumes nothing.
-use Rattle.storing.proofs.Laws.Stored.{called}
+use Rattle.std.proofs.Common.{rules}
 use Rattle.decoded.proofs.add_input.Goals as goal
 
 pub returns : goal.returns
-returns c = called c.decode-d.ensures c.add_input-r.ensures c.store.ensures
+returns c = c.edit_in.ensures _ (λ m x k. search rules)

@@ -1,6 +1,6 @@
 -- `remove_input` meets its contract. Assumes nothing.
-use Rattle.storing.proofs.Laws.Stored.{called}
+use Rattle.std.proofs.Common.{rules}
 use Rattle.decoded.proofs.remove_input.Goals as goal
 
 pub returns : goal.returns
-returns c = called c.decode-d.ensures c.remove_input-r.ensures c.store.ensures
+returns c = c.edit_in.ensures _ (λ m x k. search rules)

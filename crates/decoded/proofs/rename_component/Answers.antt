@@ -1,6 +1,6 @@
 -- `rename_component` meets its contract. Assumes nothing.
-use Rattle.storing.proofs.Laws.Stored.{called}
+use Rattle.std.proofs.Common.{rules}
 use Rattle.decoded.proofs.rename_component.Goals as goal
 
 pub returns : goal.returns
-returns c = called c.decode-d.ensures c.rename_component-r.ensures c.store.ensures
+returns c = c.edit_in.ensures _ (λ m x k. search rules)

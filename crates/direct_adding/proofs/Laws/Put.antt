@@ -18,7 +18,7 @@ use Rattle.model_bytes.specs.Calls.{Spares}
 use Rattle.model_bytes.proofs.Laws.Local.{entry_local, list_local}
 use Rattle.standing.proofs.Laws.Rows.{Built}
 use Rattle.direct_rows.proofs.Laws.Table.{built_same, built_more}
-use Rattle.direct_rows.proofs.Laws.Parts.{Whole}
+use Rattle.direct_rows.proofs.Laws.Parts.{Whole, whole_of}
 use Rattle.direct_rows.proofs.Laws.Found.{components-length}
 use Rattle.direct_rows.proofs.Laws.Written.{agree_above}
 use Rattle.direct_adding.specs.Put.{More}
@@ -40,20 +40,12 @@ module _ {s u : List ℕ} {m : Model} {n : ℕ} {t : Tag} {c : Component} {d : T
   lists : (j : ℕ) → j < word s 16 → list_row u j ≡ list_row s j
   lists j l = list_local (agree_above (5696 + 168 * j) 168 head (omega arith)) ∙ list_local (agree_above (5696 + 168 * j) 168 p.entry.kept (omega arith))
 
-  list_count : word u 16 ≡ word s 16
-  list_count = word_same (agree_above 16 8 p.count.kept (omega arith)) ∙ word_same (agree_below 16 8 p.default.kept (omega arith)) ∙ word_same (agree_below 16 8 p.entry.kept (omega arith))
-
   pub more_whole : Whole u (record { components = m.components ++ ((t, c) ∷ []); lists = m.lists; default = some d })
-  more_whole = record {
-    size = same_size ∙ w.size;
-    version = word-stays 0 head (omega arith) (word-stays 0 p.entry.kept (omega arith) w.version);
-    few = omega (arith, p.count.holds);
-    few_lists = omega (arith, list_count, w.few_lists);
-    components = subst (λ (k : ℕ). Built (entry_row u) k (m.components ++ ((t, c) ∷ []))) (sym p.count.holds)
-        (built_more (subst (λ (k : ℕ). Built (entry_row s) k m.components) (sym e) w.components) entries entry);
-    lists = subst (λ (k : ℕ). Built (list_row u) k m.lists) (sym list_count) (built_same w.lists lists);
-    default = place_local (agree_above 24 40 p.count.kept (omega arith)) ∙ p.default.holds;
-  }
+  more_whole =
+      whole_of (same_size ∙ w.size) (word-stays 0 head (omega arith) (word-stays 0 p.entry.kept (omega arith) w.version)) p.count.holds (omega arith)
+      (word_same (agree_above 16 8 p.count.kept (omega arith)) ∙ word_same (agree_below 16 8 p.default.kept (omega arith)) ∙ word_same (agree_below 16 8 p.entry.kept (omega arith))) w.few_lists
+      (built_more (subst (λ (k : ℕ). Built (entry_row s) k m.components) (sym e) w.components) entries entry) (built_same w.lists lists)
+      (place_local (agree_above 24 40 p.count.kept (omega arith)) ∙ p.default.holds)
 
   pub more-spares : Spares (length (m.components ++ ((t, c) ∷ []))) (length m.lists) s u
   more-spares =

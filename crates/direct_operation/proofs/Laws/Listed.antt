@@ -26,12 +26,13 @@ use Rattle.standing.specs.Standing.{Passing}
 use Rattle.direct_rows.specs.Took.{Took, Makes}
 use Rattle.direct_rows.proofs.Laws.Parts.{whole}
 use Rattle.direct_rows.proofs.Laws.Found.{lists_length, list-found}
+use Rattle.direct_rows.proofs.Laws.Written.{spares_then}
 use Rattle.direct_adding.proofs.Laws.Put.{more_whole, more-spares}
 use Rattle.direct_adding.proofs.Laws.Edits.{row_held, took_by}
 use Rattle.direct_adding.proofs.Laws.Grown.{stands, counted, room}
 use Rattle.direct_operation.specs.Put.{RowFor, OperationPut}
 use Rattle.direct_operation.specs.Listed.{Listed}
-use Rattle.direct_operation.proofs.Laws.Put.{list_put, spares_then}
+use Rattle.direct_operation.proofs.Laws.Put.{list_put}
 
 module _ {s : List ℕ} (k : Passing s) {n : ℕ} (e : n ≡ min (word s 8) 64) (l : n < 64) where
   -- there is room for the list too

@@ -22,7 +22,7 @@ use Rattle.model_bytes.specs.Calls.{Spares}
 use Rattle.model_bytes.proofs.Laws.Local.{entry_local, list_local}
 use Rattle.standing.proofs.Laws.Rows.{Built}
 use Rattle.direct_rows.proofs.Laws.Table.{built_same, built_set, built_more}
-use Rattle.direct_rows.proofs.Laws.Parts.{Whole}
+use Rattle.direct_rows.proofs.Laws.Parts.{Whole, whole_of}
 use Rattle.direct_rows.proofs.Laws.Found.{lists_length, list-found, list-missing}
 use Rattle.direct_rows.proofs.Laws.Written.{agree_above}
 use Rattle.direct_operation.specs.Put.{ListWrote, RowPut, RowFor}
@@ -54,15 +54,8 @@ module _ {s v : List ℕ} {m : Model} (j : ℕ) {t : Tag} {ps : List Place} (w :
   over-put : (d : Tag × List Place) → T (distinct m.lists) → j < word s 16 → (get_or m.lists j d).0 ≡ t → ListPut m t ps s v
   over-put d h l e = record {
     lists = set m.lists j (t, ps);
-    whole = record {
-      size = p.kept.size ∙ w.size;
-      version = at_word 0 (omega arith) ∙ w.version;
-      few = omega (arith, at_word 8 (omega arith), w.few);
-      few_lists = omega (arith, at_word 16 (omega arith), w.few_lists);
-      components = subst (λ (k : ℕ). Built (entry_row v) k m.components) (sym (at_word 8 (omega arith))) (built_same w.components components-kept);
-      lists = subst (λ (k : ℕ). Built (list_row v) k (set m.lists j (t, ps))) (sym (at_word 16 (omega arith))) (built_set w.lists j (t, ps) l p.holds (λ i a n. rows-kept i n));
-      default = place_local (agree_below 24 40 p.kept (omega arith)) ∙ w.default;
-    };
+    whole = whole_of (p.kept.size ∙ w.size) (at_word 0 (omega arith) ∙ w.version) (at_word 8 (omega arith)) w.few (at_word 16 (omega arith)) w.few_lists (built_same w.components components-kept)
+        (built_set w.lists j (t, ps) l p.holds (λ i a n. rows-kept i n)) (place_local (agree_below 24 40 p.kept (omega arith)) ∙ w.default);
     becomes = overwritten d m.lists j t ps h (omega (arith, lists_length w)) e;
     spares = record {
       size = p.kept.size;
@@ -78,19 +71,12 @@ module _ {s v : List ℕ} {m : Model} (j : ℕ) {t : Tag} {ps : List Place} (w :
       let eight : word u 8 ≡ word s 8 = word_same (agree_below 8 8 q.kept (omega arith)) ∙ at_word 8 (omega arith) in
       record {
         lists = m.lists ++ ((t, ps) ∷ []);
-        whole = record {
-          size = q.kept.size ∙ p.kept.size ∙ w.size;
-          version = word_same (agree_below 0 8 q.kept (omega arith)) ∙ at_word 0 (omega arith) ∙ w.version;
-          few = omega (arith, eight, w.few);
-          few_lists = omega (arith, q.holds);
-          components = subst (λ (k : ℕ). Built (entry_row u) k m.components) (sym eight)
-              (built_same w.components (λ i a. entry_local (agree_above (64 + 88 * i) 88 q.kept (omega arith)) ∙ components-kept i a));
-          lists = subst (λ (k : ℕ). Built (list_row u) k (m.lists ++ ((t, ps) ∷ []))) (sym q.holds)
-              (built_more (subst (λ (k : ℕ). Built (list_row s) k m.lists) (sym e) w.lists)
-              (λ i a. list_local (agree_above (5696 + 168 * i) 168 q.kept (omega arith)) ∙ rows-kept i (λ z. let y : ⊥ = omega arith in y))
-              (list_local (agree_above (5696 + 168 * j) 168 q.kept (omega arith)) ∙ p.holds));
-          default = place_local (agree_above 24 40 q.kept (omega arith)) ∙ place_local (agree_below 24 40 p.kept (omega arith)) ∙ w.default;
-        };
+        whole = whole_of (q.kept.size ∙ p.kept.size ∙ w.size) (word_same (agree_below 0 8 q.kept (omega arith)) ∙ at_word 0 (omega arith) ∙ w.version) eight w.few q.holds (omega arith)
+            (built_same w.components (λ i a. entry_local (agree_above (64 + 88 * i) 88 q.kept (omega arith)) ∙ components-kept i a))
+            (built_more (subst (λ (k : ℕ). Built (list_row s) k m.lists) (sym e) w.lists)
+            (λ i a. list_local (agree_above (5696 + 168 * i) 168 q.kept (omega arith)) ∙ rows-kept i (λ z. let y : ⊥ = omega arith in y))
+            (list_local (agree_above (5696 + 168 * j) 168 q.kept (omega arith)) ∙ p.holds))
+            (place_local (agree_above 24 40 q.kept (omega arith)) ∙ place_local (agree_below 24 40 p.kept (omega arith)) ∙ w.default);
         becomes = appended t ps m.lists f h;
         spares = record {
           size = q.kept.size ∙ p.kept.size;
@@ -109,11 +95,3 @@ list_put {s} {j = j} w h (inr (f, (c, l))) p =
     let e : j ≡ word s 16 = omega (arith, c, w.few_lists) in
     let q = p.more (omega (arith, e)) in
     more-put j w q.1 q.2 h e l (list-missing w f)
-
--- one change after another: what both leave alone
-pub spares_then : {n k n' k' : ℕ} {s t u : List ℕ} → Spares n k s t → Spares n' k' t u → n ≤ n' → k ≤ k' → Spares n' k' s u
-spares_then p q a b = record {
-  size = q.size ∙ p.size;
-  components = λ i g h. q.components i g h ∙ p.components i (omega arith) h;
-  lists = λ i g. q.lists i g ∙ p.lists i (omega arith);
-}

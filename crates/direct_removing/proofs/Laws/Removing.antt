@@ -15,7 +15,7 @@ use borrow.Author.Tests.{not-true}
 use Rattle.tag.specs.declared.Tag.{Tag as Label}
 use Rattle.tag.specs.Tags.{Tag, empty, overlong}
 use Rattle.tag.specs.View.{bytes_of, Made}
-use Rattle.tag.proofs.Laws.View.{length-short, made_whole}
+use Rattle.tag.proofs.Laws.View.{made_whole}
 use Rattle.component.specs.declared.model_component.Component.{Component}
 use Rattle.component.specs.declared.model_component.Component.TheVariants.{Add}
 use Rattle.model.specs.Table.{held, find, each}
@@ -26,10 +26,11 @@ use Rattle.model.proofs.Laws.Bool.{T→true}
 use Rattle.model.proofs.Laws.Valid.{some_some, found-held, good}
 use Rattle.held.proofs.Laws.Changes.{Becomes, becomes_refl, becomes_each, find_at, removed}
 use Rattle.layout.specs.Words.{word, text}
+use Rattle.layout.specs.Writing.{Kept}
 use Rattle.layout.proofs.Kept.{kept-none, Agree, word_same}
 use Rattle.rows.specs.Written.{Wrote, Writes}
 use Rattle.rows.proofs.Laws.Local.{place_local}
-use Rattle.model_bytes.specs.ModelBytes.{entry_row, list_row}
+use Rattle.model_bytes.specs.ModelBytes.{entry_row}
 use Rattle.model_bytes.specs.Calls.{Spares}
 use Rattle.model_bytes.proofs.Laws.Local.{entry_local, list_local}
 use Rattle.finding.specs.Rows.{component_at, component_row, RowSought}
@@ -39,7 +40,7 @@ use Rattle.standing.proofs.Laws.Model.{entry_shows}
 use Rattle.direct_rows.specs.Rows.{PutEntry}
 use Rattle.direct_rows.specs.Took.{Took}
 use Rattle.direct_rows.proofs.Laws.Table.{built_same, built_fewer}
-use Rattle.direct_rows.proofs.Laws.Parts.{Whole, whole}
+use Rattle.direct_rows.proofs.Laws.Parts.{Whole, whole, whole_of}
 use Rattle.direct_rows.proofs.Laws.Found.{components-length, component-found}
 use Rattle.direct_rows.proofs.Laws.Took.{applied, took}
 use Rattle.direct_swapping.specs.Swapping.{Swapped}
@@ -49,33 +50,18 @@ use Rattle.direct_swapping.proofs.Laws.Swapped.{swapped_whole, swapped_spares}
 -- ---- the last row moved
 
 module _ {i last : ℕ} {s : List ℕ} where
-  pub moved-itself : i ≡ last → LastMoved i last s s true
-  moved-itself e = record {
-    moved = λ y x f. ap (entry_row s) e ∙ f;
-    kept = kept-none s (component_at i) 88;
-    same = λ z. refl;
+  pub moved-over : {u : List ℕ} (l : Label) (c : Component) → i < 64 → i ≢ last → some c ≡ component_row s last → Made (take 32 (text s (component_at last))) l → PutEntry i (bytes_of l) c s u → LastMoved i last s u true
+  moved-over {u} l c h n r k p = record {
+    moved = λ y size x e. (p.wrote size h).holds ∙ ap some (row x e);
+    kept = within (ℕ_discrete (length s) 27200);
+    same = λ z. absurd (n z);
     left = λ y. absurd (true≢false y);
   }
-
-  pub moved_nothing : LastMoved i last s s false
-  moved_nothing = record {
-    moved = λ y. absurd (true≢false (sym y));
-    kept = kept-none s (component_at i) 88;
-    same = λ z. refl;
-    left = λ y. refl;
-  }
-
-  pub moved-over : {u : List ℕ} (l : Label) (c : Component) → length s ≡ 27200 → i < 64 → i ≢ last → some c ≡ component_row s last → Made (take 32 (text s (component_at last))) l → PutEntry i (bytes_of l) c s u
-      → LastMoved i last s u true
-  moved-over {u} l c size h n r k p =
-      let w = p.wrote size h in
-      record {
-        moved = λ y x e. w.holds ∙ ap some (row x e);
-        kept = w.kept;
-        same = λ z. absurd (n z);
-        left = λ y. absurd (true≢false y);
-      }
     where
+      within : Dec (length s ≡ 27200) → Kept s u (component_at i) 88
+      within (yes e) = (p.wrote e h).kept
+      within (no e) = subst (λ (v : List ℕ). Kept s v (component_at i) 88) (sym (p.narrow e)) (kept-none s (component_at i) 88)
+
       row : (x : Tag × Component) → entry_row s last ≡ some x → (bytes_of l, c) ≡ x
       row x e =
           let g = entry_shows s last x e in
@@ -85,12 +71,12 @@ module _ {i last : ℕ} {s : List ℕ} where
 
 -- ---- the edit
 
-pub removes : (m : Model) (t : Tag) {c : Component} → T (valid m) → length t ≤ 32 → find t m.components ≡ some c → apply (remove_component t) m ≡ record { answer = done; model = without m t }
+pub removes : (m : Model) (t : Tag) {c : Component} → T (valid m) → overlong t ≡ false → find t m.components ≡ some c → apply (remove_component t) m ≡ record { answer = done; model = without m t }
 unfolding edit remove check
 removes m t {c} v h f =
     let o : Outcome = record { answer = done; model = without m t } in
     applied (remove_component t) m v
-    ∙ ap (λ (b : Bool). check m b 1 empty 0 (check m (not (held t m.components)) 12 t 0 o)) (length-short t h)
+    ∙ ap (λ (b : Bool). check m b 1 empty 0 (check m (not (held t m.components)) 12 t 0 o)) h
     ∙ ap (λ (b : Bool). check m (not b) 12 t 0 o) (T→true (held t m.components) (found-held t m.components (c, f)))
 
 -- any row: what stands past a table
@@ -111,9 +97,6 @@ module _ {s v w : List ℕ} {m : Model} {i k : ℕ} (g : Whole s m) (size : word
   after : (j n : ℕ) → 64 + 88 * i + 88 ≤ j → Agree s w j n
   after j n l = record { size = lowered.kept.size ∙ f.kept.size; same = λ x a b. lowered.kept.above x (omega arith) ∙ f.kept.above x (omega arith) }
 
-  list_count : word w 16 ≡ word s 16
-  list_count = word_same (rest 16 8 (omega arith) (omega arith))
-
   row : (j : ℕ) → j < k → entry_row w j ≡ some (get_or (set m.components i (get_or m.components k beyond)) j beyond)
   row j l = go (ℕ_discrete j i)
     where
@@ -123,7 +106,7 @@ module _ {s v w : List ℕ} {m : Model} {i k : ℕ} (g : Whole s m) (size : word
       here : entry_row w i ≡ some (get_or m.components k beyond)
       here =
           entry_local (record { size = lowered.kept.size; same = λ x a b. lowered.kept.above x (omega arith) })
-          ∙ f.moved refl (get_or m.components k beyond) (built_get_d g.components beyond k (omega (arith, size)))
+          ∙ f.moved refl g.size (get_or m.components k beyond) (built_get_d g.components beyond k (omega (arith, size)))
 
       kept : j ≢ i → Dec (j < i) → entry_row w j ≡ entry_row s j
       kept n (yes b) = entry_local (rest (64 + 88 * j) 88 (omega arith) (omega arith))
@@ -136,16 +119,10 @@ module _ {s v w : List ℕ} {m : Model} {i k : ℕ} (g : Whole s m) (size : word
           ∙ ap some (sym (get_or-set_other m.components i j (get_or m.components k beyond) beyond n))
 
   lowered_whole : Whole w (record { components = take k (set m.components i (get_or m.components k beyond)); lists = m.lists; default = m.default })
-  lowered_whole = record {
-    size = lowered.kept.size ∙ f.kept.size ∙ g.size;
-    version = word_same (head 0 8 (omega arith)) ∙ g.version;
-    few = omega (arith, lowered.holds, g.few, size);
-    few_lists = omega (arith, list_count, g.few_lists);
-    components = subst (λ (n : ℕ). Built (entry_row w) n (take k (set m.components i (get_or m.components k beyond)))) (sym lowered.holds)
-        (built_fewer beyond (subst (λ (n : ℕ). Built (entry_row s) n m.components) size g.components) i row);
-    lists = subst (λ (n : ℕ). Built (list_row w) n m.lists) (sym list_count) (built_same g.lists (λ j l. list_local (after (5696 + 168 * j) 168 (omega (arith, g.few, size)))));
-    default = place_local (rest 24 40 (omega arith) (omega arith)) ∙ g.default;
-  }
+  lowered_whole =
+      whole_of (lowered.kept.size ∙ f.kept.size ∙ g.size) (word_same (head 0 8 (omega arith)) ∙ g.version) lowered.holds (omega (arith, g.few, size)) (word_same (rest 16 8 (omega arith) (omega arith))) g.few_lists
+      (built_fewer beyond (subst (λ (n : ℕ). Built (entry_row s) n m.components) size g.components) i row)
+      (built_same g.lists (λ j l. list_local (after (5696 + 168 * j) 168 (omega (arith, g.few, size))))) (place_local (rest 24 40 (omega arith) (omega arith)) ∙ g.default)
 
   lowered_spares : Spares k (length m.lists) s w
   lowered_spares = record {
@@ -158,7 +135,7 @@ module _ {s v w : List ℕ} {m : Model} {i k : ℕ} (g : Whole s m) (size : word
       past x a (yes e) = ap (λ (y : List ℕ). get_or y x 0) (f.same e)
       past x a (no n) = f.kept.above x (omega (arith, n))
 
-module _ {s : List ℕ} (t : Tag) {i n k : ℕ} (b : Passing s) (short : length t ≤ 32) (q : RowSought s component_at (min (word s 8) 64) t (Some i))
+module _ {s : List ℕ} (t : Tag) {i n k : ℕ} (b : Passing s) (short : overlong t ≡ false) (q : RowSought s component_at (min (word s 8) 64) t (Some i))
     (c : n ≡ min (word s 8) 64) (e : k ≡ n - 1) where
   g : Whole s b.model
   g = whole b.is

@@ -3,15 +3,15 @@ use Rattle.std.specs.Prelude.{Option, Some, None, IfSome}
 use Prim.Native.Nat.{ℕ, ◌+◌, ◌*◌, ◌≤◌, ◌<◌, min}
 use native.Mathlib.Omega.{arith}
 use mathlib.Core.Path.{◌≡◌, refl, sym, ap, subst, ◌∙◌}
-use mathlib.Core.Bool.{Bool, true, not}
+use mathlib.Core.Bool.{Bool, false, not}
 use mathlib.Core.List.{List, [], map}
 use mathlib.Core.Option.{none, some}
 use lib.Dec.{T}
-use lib.ListN.{length, get_or, set, take}
+use lib.ListN.{length, get_or, set}
 use Rattle.tag.specs.declared.Tag.{Tag as Label}
 use Rattle.tag.specs.Tags.{Tag, empty, overlong}
 use Rattle.tag.specs.View.{bytes_of, Made}
-use Rattle.tag.proofs.Laws.View.{length-short, made_whole}
+use Rattle.tag.proofs.Laws.View.{length-short, short-length}
 use Rattle.component.specs.declared.model_component.Component.{Component}
 use Rattle.component.specs.declared.model_component.Component.TheVariants.{Add}
 use Rattle.model.specs.Table.{Table, held, find, distinct, move, each}
@@ -34,7 +34,7 @@ use Rattle.direct_rows.proofs.Laws.Took.{applied, took}
 use Rattle.direct_swapping.specs.Swapping.{Swapped}
 use Rattle.direct_swapping.proofs.Laws.Swapped.{swapped_whole, swapped_spares}
 use Rattle.direct_renaming.specs.Renaming.{Renamable, ListRenamed}
-use Rattle.direct_renaming.proofs.Laws.Tagged.{entry_tagged, entry-spares, list_tagged, list-spares}
+use Rattle.direct_renaming.proofs.Laws.Tagged.{entry_tagged, entry_kept, list_tagged, list_kept}
 
 -- ---- the edit
 
@@ -71,11 +71,12 @@ module _ {t u : Tag} {m : Model} {cs : Table Component} {r s v : List ℕ} (star
   list-moved (Some j) q f =
       let a = list-found start beyond_lists q in
       let l : j < word s 16 = omega (arith, a.0, lists_length start, lists_length g) in
+      let w = f.wrote (omega (arith, l, g.few_lists, g.size)) in
       record {
         lists = set m.lists j (u, (get_or m.lists j beyond_lists).1);
-        whole = list_tagged g u beyond_lists l f;
+        whole = list_tagged g u beyond_lists l w;
         becomes = move-free beyond_lists m.lists j t u once (omega (arith, a.0, lists_length start)) a.1 n;
-        spares = list-spares g u beyond_lists l f k;
+        spares = list_kept g u beyond_lists l w k;
       }
   list-moved None q e = record {
     lists = m.lists;
@@ -105,33 +106,24 @@ module _ {s : List ℕ} (t u : Tag) {i : ℕ} (b : Renamable s t u i) (row : Opt
       let e = renames m t u valid-m b.short b.short_new missing (ap (λ (y : Tag). find y m.components) (sym here.1) ∙ find_at beyond m.components i once l) in
       let wrote = p.wrote (omega (arith, g.size)) in
       let cs = set m.components i (u, (get_or m.components i beyond).1) in
-      let d = list-moved g (entry_tagged g u beyond here.0 wrote) once-lists missing-list (entry-spares g u beyond here.0 wrote) row q f in
+      let d = list-moved g (entry_tagged g u beyond here.0 wrote) once-lists missing-list (entry_kept g u beyond here.0 wrote) row q f in
       took (rename_component t u) b.passing.is valid-m (ap (λ (o : Outcome). o.answer) e) (swapped_whole d.whole a)
       (subst (λ (o : Outcome). Becomes o.model.components cs) (sym e) (move-free beyond m.components i t u once l here.1 missing))
       (subst (λ (o : Outcome). Becomes o.model.lists (each (map (swap t (some u))) d.lists)) (sym e) (becomes_each (map (swap t (some u))) d.becomes))
       (ap (λ (o : Outcome). o.model.default) e)
       (swapped_spares d.whole a d.spares)
 
-  pub rename-done : {v w x : List ℕ} (l : Label) → Made (take 32 u) l → Writes (λ y. tag_in y (64 + 88 * i)) (some (bytes_of l)) (64 + 88 * i) 40 s v → ListRenamed row (bytes_of l) v w
+  pub rename-done : {v w x : List ℕ} (l : Label) → Made u l → Writes (λ y. tag_in y (64 + 88 * i)) (some (bytes_of l)) (64 + 88 * i) 40 s v → ListRenamed row (bytes_of l) v w
       → Swapped t (place_of (Some l)) w x → Took (rename_component t u) (made (bytes_of l)) s x
   rename-done {v} {w} {x} l k p f a =
-      let e : bytes_of l ≡ u = (made_whole u l (length-short u b.short_new) k).labelled.bytes in
+      let e : bytes_of l ≡ u = k.labelled.bytes in
       subst (λ (y : Tag). Took (rename_component t u) (made y) s x) (sym e)
       (done (subst (λ (y : Tag). Writes (λ z. tag_in z (64 + 88 * i)) (some y) (64 + 88 * i) 40 s v) e p) (subst (λ (y : Tag). ListRenamed row y v w) e f)
       (subst (λ (y : Place). Swapped t y w x) (named l ∙ ap some e) a))
 
-  -- the bytes are a model's before the list is renamed
-  pub sized : {v : List ℕ} {y : Tag} → Writes (λ z. tag_in z (64 + 88 * i)) (some y) (64 + 88 * i) 40 s v → length v ≡ 27200
-  sized p = let g = whole b.passing.is in (p.wrote (omega (arith, g.size))).kept.size ∙ g.size
-
 -- ---- what the helpers answer
 
-pub renamable : {s : List ℕ} {t u : Tag} (row : Option ℕ) → Passing s → length t ≤ 32 → length u ≤ 32 → RowSought s component_at (min (word s 8) 64) u None → RowSought s list_place_at (min (word s 16) 128) u None
+pub renamable : {s : List ℕ} {t u : Tag} (row : Option ℕ) → Passing s → overlong t ≡ false → overlong u ≡ false → RowSought s component_at (min (word s 8) 64) u None → RowSought s list_place_at (min (word s 16) 128) u None
     → RowSought s component_at (min (word s 8) 64) t row → IfSome row (Renamable s t u)
-renamable (Some r) p a b c d q = record { passing = p; short = a; short_new = b; free = c.missing; free-list = d.missing; row = q }
+renamable {t = t} {u = u} (Some r) p a b c d q = record { passing = p; short = short-length t a; short_new = short-length u b; free = c.missing; free-list = d.missing; row = q }
 renamable None p a b c d q = tt
-
--- a row that was found is one of the table
-pub below : {s : List ℕ} {t : Tag} (row : Option ℕ) → RowSought s list_place_at (min (word s 16) 128) t row → IfSome row (λ j. j < 128)
-below {s} (Some j) q = let h : j < min (word s 16) 128 = q.found.0 in omega arith
-below None q = tt

@@ -2,7 +2,7 @@
 use Prim.Native.Nat.{ℕ, ◌+◌, ◌*◌, ◌≤◌, ◌<◌}
 use native.Mathlib.Omega.{arith}
 use native.Mathlib.Decide.{dec_lt}
-use mathlib.Core.Path.{◌≡◌, sym, ap, subst, ◌∙◌}
+use mathlib.Core.Path.{◌≡◌, ap, ◌∙◌}
 use mathlib.Core.Logic.{◌≢◌}
 use mathlib.Core.Bool.{Bool, false}
 use mathlib.Core.List.{List}
@@ -10,12 +10,12 @@ use mathlib.Core.Option.{some}
 use lib.ListN.{length, set, length-set}
 use Rattle.tag.specs.Tags.{Tag}
 use Rattle.component.specs.declared.model_component.Component.{Component}
+use Rattle.model.specs.Table.{Table}
 use Rattle.model.specs.Model.{Place, Model}
 use Rattle.model.specs.Edit.{Outcome, check}
 use Rattle.layout.specs.Words.{word}
 use Rattle.layout.specs.Writing.{Kept}
 use Rattle.layout.proofs.Kept.{kept-none, kept_then, Agree, agree_below, word_same}
-use Rattle.rows.specs.Rows.{place_in}
 use Rattle.rows.proofs.Laws.Local.{place_local}
 use Rattle.model_bytes.specs.ModelBytes.{entry_row, list_row}
 use Rattle.model_bytes.specs.Calls.{Spares}
@@ -23,7 +23,7 @@ use Rattle.model_bytes.proofs.Laws.Local.{entry_local, list_local}
 use Rattle.finding.specs.Rows.{component_at, list_place_at}
 use Rattle.standing.proofs.Laws.Rows.{Built}
 use Rattle.direct_rows.proofs.Laws.Table.{built_same, built_set}
-use Rattle.direct_rows.proofs.Laws.Parts.{Whole}
+use Rattle.direct_rows.proofs.Laws.Parts.{Whole, whole_of}
 use Rattle.direct_rows.proofs.Laws.Found.{components-length, lists_length}
 
 -- a check that does not refuse
@@ -48,30 +48,29 @@ module _ {s t : List ℕ} (f : ℕ → ℕ) (z i : ℕ) (k : Kept s t (f i) z) w
       go (yes l) = agree_below (f j) z k (below l)
       go (no l) = agree_above (f j) z k (above (omega (arith, n)))
 
+-- one change after another
+pub spares_then : {n k n' k' : ℕ} {s t u : List ℕ} → Spares n k s t → Spares n' k' t u → n ≤ n' → k ≤ k' → Spares n' k' s u
+spares_then p q a b = record {
+  size = q.size ∙ p.size;
+  components = λ i g h. q.components i g h ∙ p.components i (omega arith) h;
+  lists = λ i g. q.lists i g ∙ p.lists i (omega arith);
+}
+
 module _ {s t : List ℕ} {m : Model} (w : Whole s m) where
   -- a write past the header
-  module _ {i n : ℕ} (k : Kept s t i n) (past : 64 ≤ i) where
-    word_kept : (a : ℕ) → a + 8 ≤ 64 → word t a ≡ word s a
-    word_kept a h = word_same (agree_below a 8 k (omega arith))
-
-    default-kept : place_in t 24 ≡ some m.default
-    default-kept = place_local (agree_below 24 40 k (omega arith)) ∙ w.default
+  past_header : {i n : ℕ} {cs : Table Component} {ls : Table (List Place)} → Kept s t i n → 64 ≤ i → Built (entry_row t) (word s 8) cs → Built (list_row t) (word s 16) ls
+      → Whole t (record { components = cs; lists = ls; default = m.default })
+  past_header k h c l =
+      whole_of (k.size ∙ w.size) (word_same (agree_below 0 8 k (omega arith)) ∙ w.version) (word_same (agree_below 8 8 k (omega arith))) w.few (word_same (agree_below 16 8 k (omega arith))) w.few_lists c l
+      (place_local (agree_below 24 40 k (omega arith)) ∙ w.default)
 
   -- ---- a row of the components
 
   module _ (i : ℕ) (x : Tag × Component) (h : i < word s 8) (k : Kept s t (component_at i) 88) where
     pub entry-written : entry_row t i ≡ some x → Whole t (record { components = set m.components i x; lists = m.lists; default = m.default })
-    entry-written e = record {
-      size = k.size ∙ w.size;
-      version = word_kept k (omega arith) 0 (omega arith) ∙ w.version;
-      few = omega (arith, word_kept k (omega arith) 8 (omega arith), w.few);
-      few_lists = omega (arith, word_kept k (omega arith) 16 (omega arith), w.few_lists);
-      components = subst (λ (n : ℕ). Built (entry_row t) n (set m.components i x)) (sym (word_kept k (omega arith) 8 (omega arith)))
-          (built_set w.components i x h e (λ j l n. entry_local (agree_other component_at 88 i k j (λ a. omega arith) (λ a. omega arith) n)));
-      lists = subst (λ (n : ℕ). Built (list_row t) n m.lists) (sym (word_kept k (omega arith) 16 (omega arith)))
-          (built_same w.lists (λ j l. list_local (agree_above (5696 + 168 * j) 168 k (omega (arith, w.few)))));
-      default = default-kept k (omega arith);
-    }
+    entry-written e =
+        past_header k (omega arith) (built_set w.components i x h e (λ j l n. entry_local (agree_other component_at 88 i k j (λ a. omega arith) (λ a. omega arith) n)))
+        (built_same w.lists (λ j l. list_local (agree_above (5696 + 168 * j) 168 k (omega (arith, w.few)))))
 
     pub entry-spares : Spares (length (set m.components i x)) (length m.lists) s t
     entry-spares = record {
@@ -84,17 +83,9 @@ module _ {s t : List ℕ} {m : Model} (w : Whole s m) where
 
   module _ (j : ℕ) (x : Tag × List Place) (h : j < word s 16) (k : Kept s t (list_place_at j) 168) where
     pub list_written : list_row t j ≡ some x → Whole t (record { components = m.components; lists = set m.lists j x; default = m.default })
-    list_written e = record {
-      size = k.size ∙ w.size;
-      version = word_kept k (omega arith) 0 (omega arith) ∙ w.version;
-      few = omega (arith, word_kept k (omega arith) 8 (omega arith), w.few);
-      few_lists = omega (arith, word_kept k (omega arith) 16 (omega arith), w.few_lists);
-      components = subst (λ (n : ℕ). Built (entry_row t) n m.components) (sym (word_kept k (omega arith) 8 (omega arith)))
-          (built_same w.components (λ i l. entry_local (agree_below (64 + 88 * i) 88 k (omega (arith, w.few)))));
-      lists = subst (λ (n : ℕ). Built (list_row t) n (set m.lists j x)) (sym (word_kept k (omega arith) 16 (omega arith)))
-          (built_set w.lists j x h e (λ i l n. list_local (agree_other list_place_at 168 j k i (λ a. omega arith) (λ a. omega arith) n)));
-      default = default-kept k (omega arith);
-    }
+    list_written e =
+        past_header k (omega arith) (built_same w.components (λ i l. entry_local (agree_below (64 + 88 * i) 88 k (omega (arith, w.few)))))
+        (built_set w.lists j x h e (λ i l n. list_local (agree_other list_place_at 168 j k i (λ a. omega arith) (λ a. omega arith) n)))
 
     pub list-spares : Spares (length m.components) (length (set m.lists j x)) s t
     list-spares = record {

@@ -1,17 +1,22 @@
 -- A parameter set in the bytes: the model that they then hold. Assumes nothing.
-use Rattle.std.specs.Prelude.{Ok, Some}
-use Prim.Native.Nat.{ℕ, ◌+◌, ◌*◌, ◌≤◌, ◌<◌, min}
+use Rattle.std.specs.Prelude.{Result, Ok, Err, Some, MatchResult}
+use Rattle.std.specs.Result.{result_ok}
+use Prim.Native.Nat.{ℕ, ◌+◌, ◌*◌, ◌<◌, min}
 use native.Mathlib.Omega.{arith}
 use mathlib.Core.Path.{◌≡◌, sym, ap, subst, ◌∙◌}
+use mathlib.Core.Bool.{false, true}
 use mathlib.Core.List.{List, []}
 use mathlib.Core.Option.{Option, some}
 use lib.Dec.{T}
 use lib.Ieee.{nan}
 use lib.ListN.{length, get_or, set}
+use Rattle.tag.specs.declared.Tag.{Tag as Label}
+use Rattle.tag.specs.declared.TagTooLong.{TagTooLong}
 use Rattle.tag.specs.Tags.{Tag, empty, overlong}
-use Rattle.tag.proofs.Laws.View.{length-short}
+use Rattle.tag.specs.View.{Made}
 use Rattle.component.specs.Parameter.{Name, set_parameter as parameterSet}
 use Rattle.component.specs.declared.parameter.Data.{Data}
+use Rattle.component.specs.declared.parameter.ParameterError.{ParameterError}
 use Rattle.component.specs.declared.model_component.Component.{Component}
 use Rattle.component.specs.declared.model_component.Component.TheVariants.{Constant}
 use Rattle.model.specs.Table.{Table, put, distinct}
@@ -21,43 +26,50 @@ use Rattle.model.proofs.Laws.Valid.{good}
 use Rattle.held.proofs.Laws.Changes.{Becomes, becomes_refl, overwritten}
 use Rattle.layout.specs.Words.{word}
 use Rattle.layout.proofs.Kept.{agree_below}
-use Rattle.rows.specs.Rows.{tag_in, component_in}
+use Rattle.rows.specs.Rows.{component_in}
 use Rattle.rows.specs.Written.{Wrote, Writes}
 use Rattle.rows.proofs.Laws.Local.{tag_local}
-use Rattle.model_bytes.specs.ModelBytes.{both, entry_in, entry_row}
+use Rattle.model_bytes.specs.ModelBytes.{entry_row}
+use Rattle.model_bytes.proofs.Laws.Reading.{entry_is}
 use Rattle.finding.specs.Rows.{component_at, component_row, RowSought}
 use Rattle.standing.specs.Standing.{Passing}
 use Rattle.standing.proofs.Laws.Rows.{built_get_d}
-use Rattle.standing.proofs.Laws.Model.{both_some}
 use Rattle.direct_rows.specs.Took.{Took}
-use Rattle.direct_rows.proofs.Laws.Parts.{Whole, whole}
+use Rattle.direct_rows.proofs.Laws.Parts.{Whole, whole, entry_parts}
 use Rattle.direct_rows.proofs.Laws.Found.{entry_at, component-found, component-held, components-length}
 use Rattle.direct_rows.proofs.Laws.Took.{applied, took}
 use Rattle.direct_rows.proofs.Laws.Written.{pass, kept-within, entry-written, entry-spares}
 
 -- a component written under the row's tag
 component-put : {s t : List ℕ} (i : ℕ) {x : Tag × Component} (k : Component) → entry_row s i ≡ some x → Wrote (λ u. component_in u (104 + 88 * i)) (some k) (104 + 88 * i) 48 s t → entry_row t i ≡ some (x.0, k)
-unfolding entry_in
-component-put {s} {t} i {x} k e p =
+component-put {s} {t} i k e p =
     let at : 64 + 88 * i + 40 ≡ 104 + 88 * i = omega arith in
-    let b = both_some (tag_in s (64 + 88 * i)) (component_in s (64 + 88 * i + 40)) {x = x} e in
-    ap (λ (o : Option Tag). both o (component_in t (64 + 88 * i + 40))) (tag_local (agree_below (64 + 88 * i) 40 p.kept (omega arith)) ∙ b.0)
-    ∙ ap (both (some x.0)) (ap (component_in t) at ∙ p.holds)
+    entry_is t (64 + 88 * i) (tag_local (agree_below (64 + 88 * i) 40 p.kept (omega arith)) ∙ (entry_parts s (64 + 88 * i) e).tag) (ap (component_in t) at ∙ p.holds)
 
 -- any entry
 blank : Tag × Component
 blank = ([], Constant nan)
 
+-- bytes that a tag is made of are not too many for one
+pub fitted : (t : Tag) {x : Label} (r : Result Label TagTooLong) → MatchResult r (λ y. (overlong t ≡ false) × Made t y) (λ _. overlong t ≡ true) → Some x ≡ result_ok r → overlong t ≡ false
+fitted t (Ok y) m e = m.0
+fitted t (Err z) m e = cc
+
+-- the component that a change answers
+pub changed : {r : Result Component ParameterError} {k : Component} (x : Result Component ParameterError) → x ≡ r → Some k ≡ result_ok x → r ≡ Ok k
+changed (Ok y) m e = let q : y ≡ _ = cc in sym m ∙ ap Ok q
+changed (Err z) m e = cc
+
 -- what the edit is, where the component of t becomes k
-set-edit : (m : Model) (t : Tag) (n : Name) (x : Data) {c k : Component} → length t ≤ 32 → component m t ≡ some c → parameterSet c n x ≡ Ok k
+set-edit : (m : Model) (t : Tag) (n : Name) (x : Data) {c k : Component} → overlong t ≡ false → component m t ≡ some c → parameterSet c n x ≡ Ok k
     → edit (set_parameter t n x) m ≡ record { answer = done; model = record { components = put t k m.components; lists = m.lists; default = m.default } }
 unfolding edit set_at
 set-edit m t n x {c} {k} short e p =
-    pass m (overlong t) 1 empty 0 (set_in m t n x (component m t)) (length-short t short)
+    pass m (overlong t) 1 empty 0 (set_in m t n x (component m t)) short
     ∙ ap (λ (o : Option Component). set_in m t n x o) e
     ∙ ap (settle m t) p
 
-module _ {s t : List ℕ} (g : Passing s) (tag : Tag) (n : Name) (x : Data) (i : ℕ) (sought : RowSought s component_at (min (word s 8) 64) tag (Some i)) (short : length tag ≤ 32)
+module _ {s t : List ℕ} (g : Passing s) (tag : Tag) (n : Name) (x : Data) (i : ℕ) (sought : RowSought s component_at (min (word s 8) 64) tag (Some i)) (short : overlong tag ≡ false)
     (c k : Component) (row : component_row s i ≡ some c) (change : parameterSet c n x ≡ Ok k) (writes : Writes (λ u. component_in u (104 + 88 * i)) (some k) (104 + 88 * i) 48 s t) where
   w : Whole s g.model
   w = whole g.is

@@ -16,7 +16,7 @@ use Rattle.model_bytes.specs.Calls.{Spares}
 use Rattle.model_bytes.proofs.Laws.Local.{entry_local}
 use Rattle.standing.proofs.Laws.Rows.{Built}
 use Rattle.direct_rows.proofs.Laws.Table.{built_same, built_map, each_map}
-use Rattle.direct_rows.proofs.Laws.Parts.{Whole}
+use Rattle.direct_rows.proofs.Laws.Parts.{Whole, whole_of}
 use Rattle.direct_rows.proofs.Laws.Found.{lists_length, lists-counted}
 use Rattle.direct_swapping.specs.Swapping.{swap_list, Swapped}
 
@@ -28,31 +28,18 @@ module _ {t : Tag} {p : Place} {s u : List ℕ} {m : Model} (w : Whole s m) (g :
   head : (i n : ℕ) → i + n ≤ 24 → Agree s u i n
   head i n h = record { size = g.size; same = λ k a b. g.head k (omega arith) }
 
-  count : word u 8 ≡ word s 8
-  count = word_same (head 8 8 (omega arith))
-
-  list_count : word u 16 ≡ word s 16
-  list_count = word_same (head 16 8 (omega arith))
-
   entry : (i : ℕ) → i < word s 8 → entry_row u i ≡ entry_row s i
   entry i h = entry_local (record { size = g.size; same = λ k a b. g.components k (omega arith) (omega (arith, w.few)) })
 
-  swapped_lists : Built (list_row u) (word u 16) (each (map (swap t p)) m.lists)
+  swapped_lists : Built (list_row u) (word s 16) (each (map (swap t p)) m.lists)
   swapped_lists =
-      subst (λ (n : ℕ). Built (list_row u) n (each (map (swap t p)) m.lists)) (sym list_count)
-      (subst (Built (list_row u) (word s 16)) (sym (each_map (map (swap t p)) m.lists))
-      (built_map (swap_list t p) w.lists (λ j x h e. g.lists w.size j x (omega (arith, lists-counted w)) e)))
+      subst (Built (list_row u) (word s 16)) (sym (each_map (map (swap t p)) m.lists))
+      (built_map (swap_list t p) w.lists (λ j x h e. g.lists w.size j x (omega (arith, lists-counted w)) e))
 
   pub swapped_whole : Whole u (swapped_in t p m)
-  swapped_whole = record {
-    size = g.size ∙ w.size;
-    version = word_same (head 0 8 (omega arith)) ∙ w.version;
-    few = subst (λ (n : ℕ). n ≤ 64) (sym count) w.few;
-    few_lists = subst (λ (n : ℕ). n ≤ 128) (sym list_count) w.few_lists;
-    components = subst (λ (n : ℕ). Built (entry_row u) n m.components) (sym count) (built_same w.components entry);
-    lists = swapped_lists;
-    default = g.default w.size m.default w.default;
-  }
+  swapped_whole =
+      whole_of (g.size ∙ w.size) (word_same (head 0 8 (omega arith)) ∙ w.version) (word_same (head 8 8 (omega arith))) w.few (word_same (head 16 8 (omega arith))) w.few_lists (built_same w.components entry) swapped_lists
+      (g.default w.size m.default w.default)
 
   -- rows past the counts are as before
   pub swapped_spares : {r : List ℕ} {n : ℕ} → Spares n (length m.lists) r s → Spares n (length (each (map (swap t p)) m.lists)) r u

@@ -1,14 +1,16 @@
 -- Places that name a tag changed, in bytes. Assumes nothing.
+use Rattle.std.specs.Prelude.{nat_eq}
+use Rattle.std.specs.Cmp.Lexicographic.{pointwise, same_text, other_text}
 use Prim.Native.Nat.{ℕ, suc, ◌+◌, ◌*◌, ◌-◌, ◌≤◌, ◌<◌, min}
 use native.Mathlib.Omega.{arith}
 use mathlib.Core.Path.{◌≡◌, refl, sym, ap, ◌∙◌}
-use mathlib.Core.Logic.{◌≢◌}
+use mathlib.Core.Logic.{◌≢◌, ◌⊎◌, inl, inr}
 use mathlib.Core.Bool.{Bool, true, false, cond, true≢false}
 use mathlib.Core.List.{List}
 use mathlib.Core.Option.{Option, none, some, map}
 use lib.ListN.{length, take, drop}
-use Rattle.tag.specs.Tags.{Tag, is}
-use Rattle.tag.proofs.Laws.Is.{is_refl, is_true, is_false}
+use Rattle.tag.specs.Tags.{Tag}
+use Rattle.tag.proofs.Laws.Is.{is_refl, is_false}
 use Rattle.model.specs.Model.{Place}
 use Rattle.model.specs.Edit.{swap}
 use Rattle.model.proofs.Laws.Valid.{some_some, none_some}
@@ -25,9 +27,9 @@ use Rattle.model_bytes.proofs.Laws.Local.{list_local}
 use borrow.Author.Count.{below_more}
 use Rattle.standing.proofs.Laws.Keys.{place-named, place_unnamed}
 use Rattle.standing.proofs.Laws.Rows.{built}
-use Rattle.direct_swapping.specs.Swapping.{NamesTag, PlaceSwapped, Mapped, place_at, PlacesSwapped, swap_list, ListSwapped, RowsSwapped, ListsSwapped, Swapped}
+use Rattle.direct_swapping.specs.Swapping.{NamesTag, PlaceSwapped, Mapped, place_at, PlacesSwapped, swap_list, ListSwapped, RowsSwapped, Swapped}
 use Rattle.direct_rows.proofs.Laws.Table.{built_rows, built_map}
-use Rattle.direct_swapping.proofs.Laws.Parts.{list_parts}
+use Rattle.direct_rows.proofs.Laws.Parts.{list_parts}
 
 -- ---- whether a place names the tag
 
@@ -38,23 +40,18 @@ place_from_long n s at h =
     ap (λ (k : ℕ). place_from k s at) z ∙ ap (map some) (text-long (n - 1) s at (omega arith))
 
 module _ (s : List ℕ) (at : ℕ) (t : Tag) {n : ℕ} (w : n ≡ word s at) where
-  pub names_unassigned : n ≡ 0 → NamesTag s at t false
-  names_unassigned z = record {
-    yes = λ e. absurd (true≢false (sym e));
-    no = λ e q p r. none_some (sym (place_unnamed s at (sym w ∙ z) p) ∙ r);
-  }
-
-  pub names-long : 33 < n → NamesTag s at t false
+  pub names_none : ((n ≡ 0 → ⊥) × (33 < n)) ⊎ (n ≡ 0) → {b : Bool} → b ≡ false → NamesTag s at t b
   unfolding place_in
-  names-long h = record {
-    yes = λ e. absurd (true≢false (sym e));
-    no = λ e q p r. none_some (sym (place_from_long (word s at) s (at + 8) (omega (arith, w))) ∙ p);
-  }
+  names_none h f = record { yes = λ e. absurd (true≢false (sym e ∙ f)); no = λ e q p r. unnamed h q p r }
+    where
+      unnamed : ((n ≡ 0 → ⊥) × (33 < n)) ⊎ (n ≡ 0) → (q : Place) → place_in s at ≡ some q → q ≡ some t → ⊥
+      unnamed (inr z) q p r = none_some (sym (place_unnamed s at (sym w ∙ z) p) ∙ r)
+      unnamed (inl (z, l)) q p r = none_some (sym (place_from_long (word s at) s (at + 8) (omega (arith, w))) ∙ p)
 
-  pub names_by : (n ≡ 0 → ⊥) → {b : Bool} → b ≡ is (take (at + 7 + n - (at + 8)) (drop (at + 8) s)) t → NamesTag s at t b
+  pub names_by : (n ≡ 0 → ⊥) → {b : Bool} → b ≡ pointwise nat_eq (take (at + 7 + n - (at + 8)) (drop (at + 8) s)) t → NamesTag s at t b
   names_by z {b} e = record {
-    yes = λ y q p. named q p ∙ ap some (is_true here t (sym e ∙ y));
-    no = λ y q p r. true≢false (sym (is_refl t) ∙ ap (λ (u : Tag). is u t) (sym (some_some (sym (named q p) ∙ r))) ∙ sym e ∙ y);
+    yes = λ y q p. named q p ∙ ap some (same_text here t (sym y ∙ e));
+    no = λ y q p r. other_text here t (sym y ∙ e) (some_some (sym (named q p) ∙ r));
   }
     where
       here : Tag
@@ -88,9 +85,6 @@ module _ (t : Tag) (p : Place) {at : ℕ} {s : List ℕ} {b : Bool} (n : NamesTa
 module _ {A : Type 0} (row : List ℕ → ℕ → Option A) (f : A → A) (at : ℕ → ℕ) (width : ℕ)
     (only : (s t : List ℕ) (k : ℕ) → Agree s t (at k) width → row t k ≡ row s k)
     (first : (i : ℕ) → at 0 ≤ at i) (behind : (k i : ℕ) → k < i → at k + width ≤ at i) where
-  pub mapped_none : (s : List ℕ) → Mapped row f at 0 s s
-  mapped_none s = record { size = refl; below = λ k h. refl; above = λ k h. refl; each = λ i h. absurd (let z : ⊥ = omega arith in z) }
-
   pub mapped_more : {s u v : List ℕ} {i : ℕ} → Mapped row f at i s u → Kept u v (at i) width → ((x : A) → row u i ≡ some x → row v i ≡ some (f x)) → Mapped row f at (i + 1) s v
   mapped_more {s} {u} {v} {i} m w h = record {
     size = w.size ∙ m.size;
@@ -104,9 +98,6 @@ module _ {A : Type 0} (row : List ℕ → ℕ → Option A) (f : A → A) (at : 
 -- ---- a list
 
 module _ (t : Tag) (p : Place) (j : ℕ) where
-  pub places_swapped_none : (s : List ℕ) → PlacesSwapped t p j 0 s s
-  places_swapped_none s = mapped_none (λ v k. place_row v (5744 + 168 * j) k) (swap t p) (place_at j) 40 (λ s t k a. place_local a) (λ i. omega arith) (λ k i h. omega arith) s
-
   pub places_swapped_more : {s u v : List ℕ} {i : ℕ} → PlacesSwapped t p j i s u → PlaceSwapped t p (place_at j i) u v → PlacesSwapped t p j (i + 1) s v
   places_swapped_more m w = mapped_more (λ v k. place_row v (5744 + 168 * j) k) (swap t p) (place_at j) 40 (λ s t k a. place_local a) (λ i. omega arith) (λ k i h. omega arith) m w.kept w.holds
 
@@ -130,31 +121,17 @@ module _ (t : Tag) (p : Place) (j : ℕ) where
 -- ---- the lists, and the default
 
 module _ (t : Tag) (p : Place) where
-  pub rows_swapped_none : (s : List ℕ) → RowsSwapped t p 0 s s
-  rows_swapped_none s = mapped_none list_row (swap_list t p) (λ j. 5696 + 168 * j) 168 (λ s t k a. list_local a) (λ i. omega arith) (λ k i h. omega arith) s
-
   pub rows_swapped_more : {s u v : List ℕ} {i : ℕ} → RowsSwapped t p i s u → ListSwapped t p i u v → RowsSwapped t p (i + 1) s v
   rows_swapped_more m w = mapped_more list_row (swap_list t p) (λ j. 5696 + 168 * j) 168 (λ s t k a. list_local a) (λ i. omega arith) (λ k i h. omega arith) m w.kept w.holds
 
-  pub swapped_narrow : {s : List ℕ} → (length s ≡ 27200 → ⊥) → Swapped t p s s
-  swapped_narrow h = record {
-    size = refl;
-    head = λ k l. refl;
-    components = λ k l g. refl;
-    past = λ k l. refl;
-    lists = λ e. absurd (h e);
-    default = λ e. absurd (h e);
-    narrow = λ z. refl;
-  }
-
-  pub swapped : {s u v : List ℕ} → length s ≡ 27200 → ListsSwapped t p s u → PlaceSwapped t p 24 u v → Swapped t p s v
-  swapped {s} {u} {v} e m w = record {
+  pub swapped : {s u v : List ℕ} {n : ℕ} → length s ≡ 27200 → n ≡ min (word s 16) 128 → RowsSwapped t p n s u → PlaceSwapped t p 24 u v → Swapped t p s v
+  swapped {s} {u} {v} e c m w = record {
     size = w.kept.size ∙ m.size;
     head = λ k l. w.kept.below k (omega arith) ∙ m.below k (omega arith);
     components = λ k l g. w.kept.above k (omega arith) ∙ m.below k (omega arith);
-    past = λ k l. w.kept.above k (omega arith) ∙ m.above k l;
+    past = λ k l. w.kept.above k (omega arith) ∙ m.above k (omega (arith, c));
     lists = λ z j x l h.
-        list_local (record { size = w.kept.size; same = λ k a b. w.kept.above k (omega arith) }) ∙ m.each j l x h;
+        list_local (record { size = w.kept.size; same = λ k a b. w.kept.above k (omega arith) }) ∙ m.each j (omega (arith, c)) x h;
     default = λ z q h. w.holds q (place_local (record { size = m.size; same = λ k a b. m.below k (omega arith) }) ∙ h);
     narrow = λ z. absurd (z e);
   }

@@ -1,10 +1,10 @@
 -- `swap_places` meets its contract. Assumes nothing.
 use native.Mathlib.Omega.{arith}
-use Rattle.direct_swapping.proofs.Laws.Swapping.{swapped_narrow, swapped}
+use Rattle.direct_swapping.proofs.Laws.Swapping.{rows_swapped_more, swapped}
 use Rattle.direct_swapping.proofs.swap_places.Goals as goal
 
-pub returns-then-s-ne27200 : goal.returns-then-s-ne27200
-returns-then-s-ne27200 c = swapped_narrow _ _ c.if-s-ne27200.true
+pub loop-j-preserved : goal.loop-j-preserved
+loop-j-preserved c = rows_swapped_more _ _ c.loop-j.invariant c.swap_list.ensures
 
 pub returns : goal.returns
-returns c = swapped _ _ (omega (arith, c.if-s-ne27200.false)) c.swap_lists.ensures c.swap_place.ensures
+returns c = swapped _ _ (omega (arith, c.if-s-ne27200.false)) (omega (arith, c.count-j-end.ensures)) c.loop-j.invariant c.swap_place.ensures

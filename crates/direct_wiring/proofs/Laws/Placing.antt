@@ -1,11 +1,10 @@
 -- One place of a list written in the bytes: the model that they then hold. Assumes nothing.
-use Rattle.std.specs.Prelude.{Some}
-use Prim.Native.Nat.{ℕ, ◌+◌, ◌*◌, ◌-◌, ◌≤◌, ◌<◌, min}
+use Prim.Native.Nat.{ℕ, ◌+◌, ◌*◌, ◌-◌, ◌≤◌, ◌<◌}
 use native.Mathlib.Omega.{arith}
-use mathlib.Core.Path.{◌≡◌, refl, sym, ap, subst, ◌∙◌}
-use mathlib.Core.Bool.{Bool, true, false, ◌&&◌, cond, true≢false}
+use mathlib.Core.Path.{◌≡◌, sym, ap, subst, ◌∙◌}
+use mathlib.Core.Bool.{Bool, true, ◌&&◌, cond}
 use mathlib.Core.List.{List, []}
-use mathlib.Core.Option.{Option, none, some}
+use mathlib.Core.Option.{none, some}
 use lib.Dec.{T, leb}
 use lib.ListN.{length, get_or, set}
 use borrow.Author.Tests.{leb-true}
@@ -19,22 +18,22 @@ use Rattle.held.proofs.Laws.Changes.{Becomes, becomes_refl, overwritten}
 use Rattle.layout.specs.Words.{word}
 use Rattle.layout.specs.Writing.{Kept}
 use Rattle.layout.proofs.Kept.{agree_below, word_same}
-use Rattle.rows.specs.Rows.{blank, tag_in, place_in, rows_in, place_row, places_in}
+use Rattle.rows.specs.Rows.{blank, place_in, rows_in, place_row, places_in}
 use Rattle.rows.specs.Written.{Wrote}
 use Rattle.rows.proofs.Laws.Local.{blank_local, tag_local, place_local}
 use Rattle.rows.proofs.Laws.Tests.{and_left}
-use Rattle.model_bytes.specs.ModelBytes.{both, list_in, list_row, model_in}
-use Rattle.finding.specs.Rows.{list_place_at, RowSought}
+use Rattle.model_bytes.specs.ModelBytes.{list_row, model_in}
+use Rattle.model_bytes.proofs.Laws.Reading.{list_by}
+use Rattle.finding.specs.Rows.{list_place_at}
 use Rattle.standing.proofs.Laws.Rows.{built, built_get_d}
-use Rattle.standing.proofs.Laws.Model.{both_some, cond-rows, Row}
-use Rattle.direct_rows.specs.Rows.{PutPlace}
+use Rattle.standing.proofs.Laws.Model.{cond-rows, Row}
 use Rattle.direct_rows.specs.Took.{Took}
 use Rattle.direct_rows.proofs.Laws.Table.{built_rows, built_set}
-use Rattle.direct_rows.proofs.Laws.Parts.{Whole, whole}
+use Rattle.direct_rows.proofs.Laws.Parts.{Whole, whole, list_parts}
 use Rattle.direct_rows.proofs.Laws.Found.{list_at, list-found, list_held, lists_length}
 use Rattle.direct_rows.proofs.Laws.Took.{applied, took}
 use Rattle.direct_rows.proofs.Laws.Written.{kept-within, agree_above, agree_other, list_written, list-spares}
-use Rattle.direct_wiring.specs.Placing.{PlacedIn, PlacesIn}
+use Rattle.direct_wiring.specs.Placing.{PlacedIn}
 
 -- the places at `at`, of which the one at p is written
 module _ {s t : List ℕ} (at n p : ℕ) {l : List Place} (q : Place) (h : p < n) (w : Wrote (λ u. place_in u (at + 40 * p)) (some q) (at + 40 * p) 40 s t) where
@@ -51,16 +50,14 @@ module _ {s t : List ℕ} (at n p : ℕ) {l : List Place} (q : Place) (h : p < n
 -- a row of the lists, of which the place p is written
 list_put : {s t : List ℕ} (j p : ℕ) {x : Tag × List Place} (q : Place) → p < word s (5736 + 168 * j) → list_row s j ≡ some x
     → Wrote (λ u. place_in u (5744 + 168 * j + 40 * p)) (some q) (5744 + 168 * j + 40 * p) 40 s t → list_row t j ≡ some (x.0, set x.1 p q)
-unfolding list_in
-list_put {s} {t} j p {x} q h e w =
+list_put {s} {t} j p q h e w =
     let at = 5696 + 168 * j in
     let count : at + 40 ≡ 5736 + 168 * j = omega arith in
     let first : 5744 + 168 * j ≡ at + 48 = omega arith in
-    let b = both_some (tag_in s at) (places_in (word s (at + 40)) s (at + 48)) {x = x} e in
+    let parts = list_parts s at e in
     let v = subst (λ (a : ℕ). Wrote (λ u. place_in u (a + 40 * p)) (some q) (a + 40 * p) 40 s t) first w in
-    ap (λ (o : Option Tag). both o (places_in (word t (at + 40)) t (at + 48))) (tag_local (agree_below at 40 w.kept (omega arith)) ∙ b.0)
-    ∙ ap (λ (n : ℕ). both (some x.0) (places_in n t (at + 48))) (word_same (agree_below (at + 40) 8 w.kept (omega arith)))
-    ∙ ap (both (some x.0)) (places-put (at + 48) (word s (at + 40)) p q (subst (λ (a : ℕ). p < word s a) (sym count) h) v b.1)
+    list_by t at (sym (word_same (agree_below (at + 40) 8 w.kept (omega arith)))) (tag_local (agree_below at 40 w.kept (omega arith)) ∙ parts.tag)
+    (places-put (at + 48) (word s (at + 40)) p q (subst (λ (a : ℕ). p < word s a) (sym count) h) v parts.all)
 
 -- any list
 abbrev nothing : Tag × List Place
@@ -109,12 +106,3 @@ module _ {s : List ℕ} {m : Model} (is : model_in s ≡ some m) (sound : T (val
       (overwritten nothing m.lists k.row tag (set places p q) once (omega (arith, at.0, lists_length w)) at.1))
       (ap (λ (o : Outcome). o.model.default) result)
       (list-spares w k.row (tag, set places p q) at.0 kept)
-
--- ---- what is answered
-
-module _ {tag : Tag} {p : ℕ} {q : Place} {s t : List ℕ} where
-  pub places_yes : {j : ℕ} → RowSought s list_place_at (min (word s 16) 128) tag (Some j) → p < word s (5736 + 168 * j) → PutPlace j p q s t → PlacesIn tag p q s t true
-  places_yes {j} a b c = record { placed = λ _. record { row = j; sought = a; within = b; put = c }; left = λ e. absurd (true≢false e) }
-
-pub places_no : {tag : Tag} {p : ℕ} {q : Place} {s : List ℕ} → PlacesIn tag p q s s false
-places_no = record { placed = λ e. absurd (true≢false (sym e)); left = λ _. refl }

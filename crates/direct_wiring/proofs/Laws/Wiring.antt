@@ -1,6 +1,7 @@
 -- `remove_input` and `add_input` in the bytes, where nothing refuses them. Assumes nothing.
-use Rattle.std.specs.Prelude.{Some, None}
-use Prim.Native.Nat.{ℕ, ◌≤◌, ◌<◌, min}
+use Rattle.std.specs.Prelude.{Result, Ok, Err, Some, None, MatchResult}
+use Rattle.std.specs.Result.{result_ok}
+use Prim.Native.Nat.{ℕ, ◌<◌, min}
 use native.Mathlib.Omega.{arith}
 use mathlib.Core.Path.{◌≡◌, refl, sym, ap, subst, ◌∙◌}
 use mathlib.Core.Bool.{Bool, true, false, not}
@@ -11,9 +12,9 @@ use lib.Ieee.{nan}
 use lib.ListN.{length, get_or, set}
 use borrow.Author.Tests.{lt-leb}
 use Rattle.tag.specs.declared.Tag.{Tag as Label}
+use Rattle.tag.specs.declared.TagTooLong.{TagTooLong}
 use Rattle.tag.specs.Tags.{Tag, empty, overlong}
 use Rattle.tag.specs.View.{Made}
-use Rattle.tag.proofs.Laws.View.{length-short}
 use Rattle.component.specs.declared.model_component.Component.{Component}
 use Rattle.component.specs.declared.model_component.Component.TheVariants.{Constant}
 use Rattle.model.specs.Table.{held}
@@ -37,30 +38,37 @@ use Rattle.direct_wiring.proofs.Laws.Placing.{list_there, place_there, place-put
 
 -- ---- what the edits are
 
-unwired : (m : Model) (t : Tag) (p : ℕ) {l : List Place} → length t ≤ 32 → list m t ≡ some l → p < length l
+unwired : (m : Model) (t : Tag) (p : ℕ) {l : List Place} → overlong t ≡ false → list m t ≡ some l → p < length l
     → edit (remove_input t p) m ≡ record { answer = done; model = with_list m t (set l p none) }
 unfolding edit remove_wire
 unwired m t p {l} short e h =
-    pass m (overlong t) 1 empty 0 (unwire_in m t p (list m t)) (length-short t short)
+    pass m (overlong t) 1 empty 0 (unwire_in m t p (list m t)) short
     ∙ ap (λ (o : Option (List Place)). unwire_in m t p o) e
     ∙ pass m (leb (length l) p) 3 t p (record { answer = done; model = with_list m t (set l p none) }) (lt-leb (length l) p h)
 
 there_held : (m : Model) (t : Tag) {c : Component} → component m t ≡ some c → not (held t m.components) ≡ false
 there_held m t {c} e = ap not (T→true (held t m.components) (found-held t m.components (c, e)))
 
-wired_in : (m : Model) (t u : Tag) (p : ℕ) {l : List Place} {c d : Component} → length t ≤ 32 → overlong u ≡ false → component m t ≡ some c → component m u ≡ some d → list m t ≡ some l → p < length l
+wired_in : (m : Model) (t u : Tag) (p : ℕ) {l : List Place} {c d : Component} → overlong t ≡ false → overlong u ≡ false → component m t ≡ some c → component m u ≡ some d → list m t ≡ some l → p < length l
     → walk_from m t u ≡ clear → edit (add_input t u p) m ≡ record { answer = done; model = with_list m t (set l p (some u)) }
 unfolding edit add_wire
 wired_in m t u p {l} short-t short-u a b e h walk =
     let o : Outcome = record { answer = done; model = with_list m t (set l p (some u)) } in
     let z = wire_in m t u p (list m t) in
-    pass m (overlong t) 1 empty 0 _ (length-short t short-t)
+    pass m (overlong t) 1 empty 0 _ short-t
     ∙ pass m (overlong u) 1 empty 0 _ short-u
     ∙ pass m (not (held t m.components)) 12 t 0 _ (there_held m t a)
     ∙ pass m (not (held u m.components)) 12 u 0 z (there_held m u b)
     ∙ ap (λ (x : Option (List Place)). wire_in m t u p x) e
     ∙ pass m (leb (length l) p) 3 t p _ (lt-leb (length l) p h)
     ∙ ap (walked m t o) walk
+
+-- ---- what the tags are
+
+-- the tag of these bytes, which are not too many for one
+pub fitted : {t : Tag} {x : Label} (r : Result Label TagTooLong) → MatchResult r (λ y. (overlong t ≡ false) × Made t y) (λ _. overlong t ≡ true) → Some x ≡ result_ok r → (overlong t ≡ false) × Made t x
+fitted {t} {x} (Ok y) m e = let q : y ≡ x = cc in subst (λ (z : Label). (overlong t ≡ false) × Made t z) q m
+fitted (Err z) m e = cc
 
 -- ---- what their places are
 
@@ -74,7 +82,7 @@ assigned made = ap some made.labelled.bytes
 
 -- ---- `remove_input`
 
-pub input_removed : {s t : List ℕ} {r : Bool} (g : Passing s) (tag : Tag) (p : ℕ) → length tag ≤ 32 → PlacesIn tag p (place_of None) s t r
+pub input_removed : {s t : List ℕ} {r : Bool} (g : Passing s) (tag : Tag) (p : ℕ) → overlong tag ≡ false → PlacesIn tag p (place_of None) s t r
     → Takes (remove_input tag p) done s t r
 input_removed {s} {t} g tag p short k = record {
   taken = λ e.
@@ -95,7 +103,7 @@ module _ {s : List ℕ} {n : ℕ} {w : List (List Wire)} (g : Stands s n w) (tar
       let b = from.found in
       ap (λ (t : Tag). walk_from g.model t source) (sym a.1) ∙ ap (λ (t : Tag). walk_from g.model (tag_of s i) t) (sym b.1) ∙ c s g (omega (arith, a.0, g.count))
 
-  pub input_added : {t : List ℕ} {r : Bool} (p : ℕ) (y : Label) → length target ≤ 32 → overlong source ≡ false → Clear w n i k → Made source y
+  pub input_added : {t : List ℕ} {r : Bool} (p : ℕ) (y : Label) → overlong target ≡ false → overlong source ≡ false → Clear w n i k → Made source y
       → PlacesIn target p (place_of (Some y)) s t r → Takes (add_input target source p) done s t r
   input_added {t} p y short-t short-s c made k = record {
     taken = λ e.

@@ -1,18 +1,16 @@
 -- The contract of an edit on bytes, from an edit that was made in the bytes themselves. Assumes nothing.
-use Rattle.std.specs.Prelude.{Option}
 use Prim.Native.Nat.{ℕ}
 use mathlib.Core.Path.{◌≡◌, refl, sym, ap, subst, ◌∙◌}
 use mathlib.Core.Bool.{Bool, false}
 use mathlib.Core.List.{List}
 use native.Mathlib.Omega.{arith}
-use Rattle.tag.specs.declared.Tag.{Tag as Label}
 use Rattle.tag.specs.Tags.{Tag}
 use Rattle.model.specs.Model.{Model}
 use Rattle.model.specs.Edit.{Edit, Answer, done, made, refused, apply}
 use Rattle.model.proofs.Laws.Valid.{some_some}
 use Rattle.model_bytes.specs.ModelBytes.{model_in}
 use Rattle.model_bytes.specs.Calls.{Holds}
-use Rattle.direct_rows.specs.Took.{Took, Takes, Makes}
+use Rattle.direct_rows.specs.Took.{Took, Takes}
 use Rattle.report.specs.Report.{reported, of_answer}
 use Rattle.storing.specs.Called.{answer_in, Called}
 use Rattle.storing.specs.Steps.{Told}
@@ -48,9 +46,6 @@ not_made {e} {t = t} {out = out} {after} {r} q h = subst (λ (v : List ℕ). Cal
 -- the same edit
 pub took_as : {f e : Edit} {a : Answer} {s t : List ℕ} → f ≡ e → Took f a s t → Took e a s t
 took_as {a = a} {s = s} {t = t} q h = subst (λ (x : Edit). Took x a s t) q h
-
-pub makes_as : {f e : Edit} (s t : List ℕ) (r : Option Label) → f ≡ e → Makes f s t r → Makes e s t r
-makes_as s t r q h = subst (λ (x : Edit). Makes x s t r) q h
 
 pub takes_as : {f e : Edit} {a : Answer} {s t : List ℕ} {b : Bool} → f ≡ e → Takes f a s t b → Takes e a s t b
 takes_as {a = a} {s = s} {t = t} {b = b} q h = subst (λ (x : Edit). Takes x a s t b) q h

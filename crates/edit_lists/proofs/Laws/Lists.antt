@@ -5,57 +5,59 @@ use mathlib.Core.Bool.{Bool, true, false}
 use mathlib.Core.List.{List, []}
 use mathlib.Core.Option.{Option, none, some, none-ne-some}
 use native.Mathlib.Omega.{arith}
+use Rattle.std.specs.Prelude.{Some, None, Option as Found, Result, Ok, Err}
 use lib.Ieee.{Float, binary64, to_bits}
 use lib.ListN.{length}
+use Rattle.tag.specs.declared.Tag.{Tag as Label}
 use Rattle.tag.specs.Tags.{Tag, empty}
 use Rattle.geometry.specs.declared.vec3f.Vec3.{Vec3}
 use Rattle.model.specs.declared.implicit_model.Model.{Model as Record}
 use Rattle.model.specs.Model.{Model, new, Same, valid}
-use Rattle.model.specs.Edit.{Edit, done, refused}
+use Rattle.model.specs.declared.model_error.Refusal.{Refusal}
+use Rattle.model.specs.Answer.{refusal_of, answer_of}
+use Rattle.model.specs.Edit.{Edit, Answer, refused}
 use Rattle.model.specs.Form.{Compiles, Number, Reply, bits, handed, Evaluated}
 use Rattle.model.specs.View.{view, passes}
 use Rattle.held.specs.Reading.{New}
-use Rattle.evaluating.specs.Evaluate.{reply_of, point_of}
-use Rattle.model_bytes.specs.declared.decode.Decoded.{Decoded}
+use Rattle.evaluating.specs.Evaluate.{reply_of}
 use Rattle.model_bytes.specs.ModelBytes.{model_in}
 use Rattle.model_bytes.specs.Calls.{Decodes}
-use Rattle.model_bytes.proofs.Theorems.Decoded.{decodes_held, decoded_holds}
-use Rattle.report.specs.Report.{of_reply}
+use Rattle.report.specs.Report.{reported, of_answer, of_reply}
 use Rattle.steady.specs.declared.AfterList.{AfterList}
 use Rattle.steady.specs.Lists.{after, newest, Sparing}
 use Rattle.steady.specs.Steadied.{Steadied, Promised, After}
 use Rattle.model_bytes.specs.Calls.{Holds}
-use Rattle.edit_lists.specs.Lists.{Begun, Answered, AskedAfter}
+use Rattle.edit_lists.specs.Lists.{Begun, Begins, Answered, AskedAfter}
 use Rattle.storing.specs.Steps.{Told, Replied, Written}
-use Rattle.storing.proofs.Laws.Stored.{model-long, passes_is, holds_after}
+use Rattle.storing.proofs.Laws.Stored.{model-long, held_one, passes_is, holds_after}
 
 -- ---- a new model
 
-module _ {s out written : List ℕ} where
-  pub begun_7 : {r : ℕ} → (length s ≡ 27200 → ⊥) → Told (refused 7 [] 0) out written r → Begun s s out written r
-  begun_7 h k = record {
-    room = λ e. absurd (h e);
-    elsewhere = λ e. record { code = k.code; report = k.report; kept = refl };
-  }
+module _ {s : List ℕ} where
+  pub begins_7 : (e : Refusal) → (length s ≡ 27200 → ⊥) → refusal_of e ≡ refused 7 empty 0 → Begins s s (Err e)
+  begins_7 e h f = record { room = λ q. absurd (h q); elsewhere = λ q. (f, refl) }
 
-  pub begun_new : {t : List ℕ} {m : Record} {r : ℕ} → length s ≡ 27200 → New m → Written m s t 0 → Told done out written r → Begun s t out written r
-  begun_new {t} {m} e n w k = record {
-    room = λ q. record {
-      code = k.code;
-      report = k.report;
-      model = holds_after e n.passing (subst (Same new) (sym n.holds) (record { components = λ u. refl; lists = λ u. refl; default = refl })) w refl;
-    };
+  pub begins_new : {t : List ℕ} {m : Record} → length s ≡ 27200 → New m → Written m s t 0 → Begins s t (Ok None)
+  begins_new e n w = record {
+    room = λ q. (refl, holds_after e n.passing (subst (Same new) (sym n.holds) (record { components = λ u. refl; lists = λ u. refl; default = refl })) w refl);
     elsewhere = λ h. absurd (h e);
   }
 
--- ---- a list of edits
+  pub begun : {t out written : List ℕ} {r : ℕ} (a : Result (Found Label) Refusal) → Begins s t a → Told (answer_of a) out written r → Begun s t out written r
+  begun {out = out} a b k = record {
+    room = λ q. record {
+      code = k.code ∙ ap (λ (y : Answer). (of_answer y).code) (b.room q).0;
+      report = k.report ∙ ap (λ (y : Answer). reported out (of_answer y)) (b.room q).0;
+      model = (b.room q).1;
+    };
+    elsewhere = λ h. record {
+      code = k.code ∙ ap (λ (y : Answer). (of_answer y).code) (b.elsewhere h).0;
+      report = k.report ∙ ap (λ (y : Answer). reported out (of_answer y)) (b.elsewhere h).0;
+      kept = (b.elsewhere h).1;
+    };
+  }
 
--- the point, from the bits of its numbers
-pub after_at : {o : Option (List Edit)} {m : Record} {t : Tag} {x y z u v w : Float} {a : AfterList} → x ≡ u → y ≡ v → z ≡ w
-    → After o m t (point_of x y z) a → After o m t (point_of u v w) a
-after_at {o} {m} {t} {x} {y} {z} {u} {v} {w} {a} e f g h =
-    subst (λ (k : Float). After o m t (point_of k v w) a) e
-    (subst (λ (k : Float). After o m t (point_of x k w) a) f (subst (λ (k : Float). After o m t (point_of x y k) a) g h))
+-- ---- a list of edits
 
 module _ (o : Option (List Edit)) (target : Tag) (p : Vec3) {s out written : List ℕ} where
   pub asked_7 : {r : ℕ} → model_in s ≡ none → Told (refused 7 [] 0) out written r → AskedAfter o target p s s out written r
@@ -70,23 +72,23 @@ module _ (o : Option (List Edit)) (target : Tag) (p : Vec3) {s out written : Lis
     kept = λ z. refl;
   }
 
-  module _ {t : List ℕ} {d : Decoded} {a : AfterList} {r : ℕ} (held : Decodes s d) (ok : d.ok ≡ true) (h : After o d.model target p a)
+  module _ {t : List ℕ} {a : AfterList} {r : ℕ} (d : Record) (held : Decodes s (Some d)) (h : After o d target p a)
       (k : Replied (reply_of a.reply) out written r) (w : Written a.model s t r) where
     abbrev reply : Reply
     reply = reply_of a.reply
 
     unlisted : o ≡ none → reply ≡ handed 7 empty 0
-    unlisted q = (subst (λ (y : Option (List Edit)). Promised y d.model target p a.model reply) q h.promised).reply
+    unlisted q = (subst (λ (y : Option (List Edit)). Promised y d target p a.model reply) q h.promised).reply
 
     module _ (m : Model) (es : List Edit) (g : model_in s ≡ some m) (q : o ≡ some es) where
-      run : Steadied es d.model target p a.model reply
-      run = subst (λ (y : Option (List Edit)). Promised y d.model target p a.model reply) q h.promised
+      run : Steadied es d target p a.model reply
+      run = subst (λ (y : Option (List Edit)). Promised y d target p a.model reply) q h.promised
 
-      seen : view d.model ≡ m
-      seen = (decodes_held g held).1
+      seen : view d ≡ m
+      seen = held_one s held.0 g
 
-      passing : passes d.model ≡ valid m
-      passing = passes_is held ∙ ap valid seen
+      passing : passes d ≡ valid m
+      passing = passes_is d held.1 ∙ ap valid seen
 
       answered : Answered es m target p reply
       answered = record {
@@ -115,7 +117,7 @@ module _ (o : Option (List Edit)) (target : Tag) (p : Vec3) {s out written : Lis
       reply = reply;
       code = k.code;
       report = k.report;
-      unread = λ q. absurd (none-ne-some (view d.model) (sym q ∙ decoded_holds held ok));
+      unread = λ q. absurd (none-ne-some (view d) (sym q ∙ held.0));
       unlisted = unlisted;
       answered = answered;
       model = stored;

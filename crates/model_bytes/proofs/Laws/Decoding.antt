@@ -3,7 +3,7 @@ use Prim.Native.Nat.{ℕ, ◌≤◌, ◌<◌}
 use mathlib.Core.Path.{◌≡◌, refl, sym, ap, subst, ◌∙◌}
 use mathlib.Core.Bool.{Bool, true, false, ◌&&◌, cond}
 use mathlib.Core.List.{List}
-use mathlib.Core.Option.{Option, none, some, get_or}
+use mathlib.Core.Option.{Option, none, some}
 use Rattle.std.specs.Prelude.{Some}
 use lib.Dec.{leb, eqb}
 use lib.ListN.{length}
@@ -11,15 +11,12 @@ use borrow.Author.Tests.{le-leb, lt-leb, eq-eqb, ne_eqb, eqb-true, leb-true}
 use Rattle.component.specs.declared.model_component.Component.{Component}
 use Rattle.model.specs.declared.implicit_model.Model.{Model as Record}
 use Rattle.model.specs.Table.{Table}
-use Rattle.model.specs.Model.{Place, Model, new, valid}
-use Rattle.model.specs.View.{place_of, component_of, components_of, list_of, lists_of, view, rows, every, place_fits, entry_fits, list_fits, fits, passes}
-use Rattle.held.specs.Reading.{New}
+use Rattle.model.specs.Model.{Place}
+use Rattle.model.specs.View.{place_of, component_of, components_of, list_of, lists_of, view, rows, every, place_fits, entry_fits, list_fits, fits}
 use Rattle.layout.specs.Words.{word}
-use Rattle.layout.specs.Some.{is_some}
 use Rattle.rows.specs.Rows.{place_in, rows_in}
 use Rattle.model_bytes.specs.ModelBytes.{headed, entry_row, list_row, joined, model_in}
 use Rattle.model_bytes.specs.Steps.{Read, all_fit}
-use Rattle.model_bytes.specs.Calls.{Decodes}
 use Rattle.rows.proofs.Laws.Tests.{and_left, and_right, and_false}
 
 -- ---- the header
@@ -117,18 +114,3 @@ module _ (s : List ℕ) (h : headed s ≡ true) where
   model_read m n k e l p =
       let g = head s h in
       (model_some s h m n k e.0 l.0 p.0, model_sized m (subst (λ (k : ℕ). k ≤ 64) (sym n) g.components) (subst (λ (k : ℕ). k ≤ 128) (sym k) g.lists) e.1 l.1 p.1)
-
-pub decodes_none : (s : List ℕ) (m : Record) → New m → model_in s ≡ none → Decodes s (record { ok = false; model = m })
-unfolding passes
-decodes_none s m n e = record {
-  answer = ap is_some (sym e);
-  holds = n.holds ∙ ap (λ (o : Option Model). get_or o new) (sym e);
-  sizes = and_left (fits m) (valid (view m)) n.passing;
-}
-
-pub decodes_some : (s : List ℕ) (m : Record) → Read view fits (model_in s) (Some m) → Decodes s (record { ok = true; model = m })
-decodes_some s m r = record {
-  answer = ap is_some (sym r.0);
-  holds = ap (λ (o : Option Model). get_or o new) (sym r.0);
-  sizes = r.1;
-}

@@ -7,10 +7,10 @@ use mathlib.Core.List.{List}
 use mathlib.Core.Option.{Option as Maybe, none, some, map}
 use native.Mathlib.Nat.{eq-or-lt_of_le, le_of_suc-le-suc}
 use native.Mathlib.Omega.{arith}
-use lib.ListN.{length, take, drop, set}
+use lib.ListN.{length, get_or, take, drop}
 use lib.Seq.{take-take}
 use borrow.Author.Tests.{le-leb}
-use Rattle.std.specs.Prelude.{Option, Some, None}
+use Rattle.std.specs.Prelude.{Option, Some, None, MatchOption}
 use Rattle.std.specs.Bool.{then_some}
 use Rattle.tag.specs.declared.Tag.{Tag as Label}
 use Rattle.tag.specs.Tags.{Tag}
@@ -19,7 +19,7 @@ use Rattle.component.specs.declared.model_component.Component.{Component}
 use Rattle.model.specs.declared.implicit_model.InputList.{InputList}
 use Rattle.model.specs.Model.{Place}
 use Rattle.model.specs.View.{rows, every, place_of, place_fits, list_fits}
-use Rattle.held.proofs.Laws.Rows.{rows_more}
+use Rattle.rows.proofs.Laws.Writing.{rows_one}
 use Rattle.layout.specs.Words.{word}
 use Rattle.rows.specs.Rows.{blank, text_in, tag_in, place_from, place_in, component_in, append, rows_in, place_row, places_in}
 use Rattle.rows.proofs.Laws.Tests.{and_true, every_append}
@@ -77,24 +77,25 @@ module _ {A : Type 0} (row : ℕ → Maybe A) where
       go (inl q) r = last (rows_in row n) (ap row (sym q) ∙ e)
       go (inr l) r = ap (λ (o : Maybe (List A)). append o (row n)) (r l)
 
--- the first i rows, read into a table
-pub record Sofar {A B : Type 0} (g : A → B) (sized : A → Bool) (row : ℕ → Maybe B) (i : ℕ) (table : List A) : Type 0 where
-  pub holds : rows_in row i ≡ some (rows g i table)
-  pub sizes : every (rows sized i table) ≡ true
-
 module _ {A B : Type 0} (g : A → B) (sized : A → Bool) (row : ℕ → Maybe B) where
-  pub sofar_none : (table : List A) → Sofar g sized row 0 table
+  -- each of the first n rows, read into a table
+  table_read : (n : ℕ) (table : List A) (d : A) → n ≤ length table → ((i : ℕ) → i < n → Read g sized (row i) (Some (get_or table i d))) → Read (rows g n) (all_fit sized n) (rows_in row n) (Some table)
   unfolding rows rows_in
-  sofar_none table = record { holds = refl; sizes = refl }
+  table_read zero table d h each = (refl, refl)
+  table_read (suc n) table d h each =
+      let below = table_read n table d (omega arith) (λ i l. each i (omega arith)) in
+      let last = each n (omega arith) in
+      subst (λ (k : ℕ). Read (rows g k) (all_fit sized k) (rows_in row k) (Some table)) (let z : n + 1 ≡ suc n = omega arith in z) (
+        rows_append row n below.0 last.0 ∙ ap some (sym (rows_one g table n d h)),
+        ap every (rows_one sized table n d h) ∙ every_append (rows sized n table) (sized (get_or table n d)) ∙ and_true below.1 last.1,
+      )
 
-  pub sofar_more : {i : ℕ} {table : List A} {x : A} → Sofar g sized row i table → i < length table → Read g sized (row i) (Some x) → Sofar g sized row (i + 1) (set table i x)
-  sofar_more {i} {table} {x} s h r = record {
-    holds = rows_append row i s.holds r.0 ∙ ap some (sym (rows_more g table i x h));
-    sizes = ap every (rows_more sized table i x h) ∙ every_append (rows sized i table) (sized x) ∙ and_true s.sizes r.1;
-  }
-
-  pub sofar_all : {i n : ℕ} {table : List A} → Sofar g sized row i table → i ≡ n → Read (rows g n) (all_fit sized n) (rows_in row n) (Some table)
-  sofar_all {i} {n} {table} s e = subst (λ (k : ℕ). Read (rows g k) (all_fit sized k) (rows_in row k) (Some table)) e (s.holds, s.sizes)
+  -- what a reader gave of each of them, or that it gave one of them as none
+  pub rows_read : (n size : ℕ) (d : A) (reads : ℕ → Option A → Type 0) (r : Option (List A)) → n ≤ size
+      → MatchOption r ((i : ℕ) × (o : Option A) × (i < n) × (o ≡ None) × reads i o) (λ table. (length table ≡ size) × ((i : ℕ) → i < n → reads i (Some (get_or table i d))))
+      → ((i : ℕ) (o : Option A) → i < n → reads i o → Read g sized (row i) o) → Read (rows g n) (all_fit sized n) (rows_in row n) r
+  rows_read n size d reads None h (i, o, l, e, x) each = rows_none row i n l (subst (Read g sized (row i)) e (each i o l x))
+  rows_read n size d reads (Some table) h (e, x) each = table_read n table d (omega (arith, e)) (λ i l. each i (Some (get_or table i d)) l (x i l))
 
 -- ---- a row of each table
 

@@ -1,6 +1,6 @@
 -- A record within its sizes, test by test. Assumes nothing.
 use Prim.Native.Nat.{◌≤◌, ◌<◌}
-use mathlib.Core.Path.{◌≡◌, refl, sym, ap, ◌∙◌}
+use mathlib.Core.Path.{◌≡◌, sym, ap, ◌∙◌}
 use mathlib.Core.Bool.{Bool, true, false, ◌&&◌}
 use lib.Dec.{leb}
 use borrow.Author.Tests.{le-leb, lt-leb, leb-true}
@@ -8,11 +8,7 @@ use Rattle.tag.specs.View.{tag_fits}
 use Rattle.model.specs.declared.implicit_model.InputList.{InputList}
 use Rattle.model.specs.declared.implicit_model.Model.{Model as Record}
 use Rattle.model.specs.View.{rows, every, place_fits, entry_fits, list_fits, fits}
-use Rattle.rows.proofs.Laws.Tests.{and_left, and_right, and_false}
-
-and_one : (a : Bool) → (a && true) ≡ a
-and_one true = refl
-and_one false = refl
+use Rattle.rows.proofs.Laws.Tests.{and_left, and_right, and_false, and_one}
 
 module _ (l : InputList) where
   pub list-long : 32 < l.tag.len → false ≡ list_fits l

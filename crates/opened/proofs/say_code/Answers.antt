@@ -7,4 +7,4 @@ use Rattle.opened.proofs.say_code.Goals as goal
 
 pub returns : goal.returns
 returns c =
-    says_as c.say.ensures (ap {B = Report} (λ (u : Tag). record { code = c.args.code; index = 0; tag = u; number = 0 }) c.empty_tag-t.ensures.labelled.bytes)
+    says_as c.say.ensures (ap {B = Report} (λ (u : Tag). record { code = c.args.code; index = 0; tag = u; number = 0 }) c.default.ensures.labelled.bytes)

@@ -4,21 +4,14 @@ use Rattle.std.specs.Result.{result_ok}
 use Prim.Native.Nat.{ℕ, zero, suc, ◌<◌}
 use native.Mathlib.Omega.{arith}
 use mathlib.Core.Path.{◌≡◌, sym, ap, subst, ◌∙◌}
-use mathlib.Core.Bool.{Bool, true}
 use mathlib.Core.List.{List}
 use mathlib.Core.Option.{some}
-use Rattle.tag.specs.Tags.{Tag, is}
-use Rattle.tag.proofs.Laws.Is.{is_true}
 use Rattle.component.specs.Value.{input_count}
 use Rattle.component.specs.declared.model_component.Component.{Component}
 use Rattle.layout.specs.Words.{text}
 use Rattle.finding.specs.Rows.{list_place_at, component_row, tag_of}
 use Rattle.standing.specs.declared.Untold.{Untold}
 use Rattle.standing.specs.Standing.{Listing, Takes}
-
--- a text read, u, which a comparison found to be t
-pub told : {u v t : Tag} {b : Bool} → u ≡ v → b ≡ is u t → b ≡ true → v ≡ t
-told {u} {v} {t} e q y = sym e ∙ is_true u t (sym q ∙ y)
 
 -- a list that is told
 pub list_told : (s keys : List ℕ) (n k i : ℕ) {o : ℕ} (r : Result (Option ℕ) Untold) → Listing s keys n k i r → ◌≡◌ {A = Option (Option ℕ)} (Some (Some o)) (result_ok r)

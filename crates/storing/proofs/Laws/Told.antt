@@ -1,7 +1,7 @@
 -- Reports of answers and replies. Assumes nothing.
 use Rattle.std.specs.Prelude.{Option, Some, None, Result, Ok, Err}
 use Prim.Native.Nat.{ℕ}
-use mathlib.Core.Path.{◌≡◌, refl, sym, ap, subst, ◌∙◌}
+use mathlib.Core.Path.{◌≡◌, refl, ap, ◌∙◌}
 use mathlib.Core.List.{List}
 use native.Mathlib.Omega.{arith}
 use Rattle.tag.specs.declared.Tag.{Tag as Label}
@@ -10,7 +10,7 @@ use Rattle.tag.specs.View.{bytes_of, Made}
 use Rattle.model.specs.declared.model_error.ModelError.{ModelError}
 use Rattle.model.specs.declared.model_error.ModelError.TheVariants.{TagTooLong, IncorrectInputCount, InputIndexOutOfRange, ParameterDoesNotFit, ParameterTooNear, InvalidModel, DuplicateTag, MissingTag, MissingInput, CyclicDependency, ComponentsFull, ListsFull, NumberedTagTooLong}
 use Rattle.model.specs.declared.model_error.Refusal.{Refusal}
-use Rattle.model.specs.Edit.{done, made, refused}
+use Rattle.model.specs.Edit.{refused}
 use Rattle.model.specs.Answer.{number_of, refusal_of, answer_of}
 use Rattle.report.specs.Report.{Report, reported}
 use Rattle.storing.specs.Steps.{Reported, Told}

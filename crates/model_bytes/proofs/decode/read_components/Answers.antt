@@ -1,19 +1,7 @@
 -- `read_components` meets its contract. Assumes nothing.
-use mathlib.Core.Path.{refl}
-use native.Mathlib.Omega.{arith}
-use lib.ListN.{length-set}
-use Rattle.model.specs.View.{component_of, entry_fits}
-use Rattle.model_bytes.proofs.Laws.Reading.{rows_none, sofar_none, sofar_more, sofar_all}
+use Rattle.std.proofs.Common.{rules}
+use Rattle.model_bytes.proofs.Laws.Reading.{rows_read}
 use Rattle.model_bytes.proofs.decode.read_components.Goals as goal
 
-pub loop-i-init : goal.loop-i-init
-loop-i-init c = (refl, sofar_none component_of entry_fits _ _)
-
-pub returns-in_err-entries : goal.returns-in_err-entries
-returns-in_err-entries c = rw c.from_residual.ensures (rows_none _ c.loop-i.i c.args.n c.loop-i-test.true c.in_err-entries.ensures)
-
-pub loop-i-preserved : goal.loop-i-preserved
-loop-i-preserved c = (simp length-set c.loop-i.invariant.0, sofar_more component_of entry_fits _ c.loop-i.invariant.1 (omega arith) c.in_ok-entries.ensures)
-
 pub returns : goal.returns
-returns c = sofar_all component_of entry_fits _ c.loop-i.invariant.1 (omega arith)
+returns c = rows_read _ _ _ c.args.n _ _ _ c.read_rows.result (search rules) c.read_rows.ensures (λ i o l k. search rules)

@@ -1,2 +1,0 @@
--- `Check`: a model checked.
-pub mod Check

@@ -1,2 +1,0 @@
--- `Laws` is what the function's proof cites.
-mod Laws

@@ -1,0 +1,6 @@
+-- `add_component` meets its contract. Assumes nothing.
+use Rattle.std.proofs.Common.{rules}
+use Rattle.decoded.proofs.additions.add_component.Goals as goal
+
+pub returns : goal.returns
+returns c = c.edit_in.ensures _ (λ m x k. search rules)
