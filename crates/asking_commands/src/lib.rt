@@ -7,37 +7,30 @@ use crate::reply::{Order, Reply};
 use float::bits::bits_of;
 use geometry::vec3f::Vec3;
 use model::implicit_model::Model;
+use model::model_error::Refusal;
 use protocol::arguments::Operator;
 use protocol::command::Question;
 use record::writing::Record;
 
-fn compile<'a>(model: &'a Model, target: &[u8]) -> Reply<'a> {
-    match graph::computation_graph::compile(model, target) {
-        Ok(graph) => {
-            let positions = graph.order;
-            Reply::Order(Order {
-                model,
-                positions,
-                count: graph.count,
-            })
-        }
-        Err(refusal) => Reply::Refused(refusal),
-    }
+fn compile<'a>(model: &'a Model, target: &[u8]) -> Result<Reply<'a>, Refusal> {
+    let graph = graph::computation_graph::compile(model, target)?;
+    let positions = graph.order;
+    Ok(Reply::Order(Order {
+        model,
+        positions,
+        count: graph.count,
+    }))
 }
 
-fn evaluate_at<'a>(model: &Model, target: &[u8], at: Vec3) -> Reply<'a> {
-    match evaluating::evaluate::evaluate_at(model, target, at.x, at.y, at.z) {
-        Ok(bits) => Reply::Number(bits),
-        Err(refusal) => Reply::Refused(refusal),
-    }
+fn evaluate_at<'a>(model: &Model, target: &[u8], at: Vec3) -> Result<Reply<'a>, Refusal> {
+    let bits = evaluating::evaluate::evaluate_at(model, target, at)?;
+    Ok(Reply::Number(bits))
 }
 
 // A model that is not valid is not written.
-fn dump(model: &Model) -> Reply<'_> {
-    match validity::check(model) {
-        Ok(()) => Reply::Written(Record(model)),
-        Err(refusal) => Reply::Refused(refusal),
-    }
+fn dump(model: &Model) -> Result<Reply<'_>, Refusal> {
+    validity::check(model)?;
+    Ok(Reply::Written(Record(model)))
 }
 
 fn operate<'a>(operator: Operator) -> Reply<'a> {
@@ -49,12 +42,21 @@ fn operate<'a>(operator: Operator) -> Reply<'a> {
     }
 }
 
-// What a model answers.
-pub fn asked<'a>(model: &'a Model, question: &Question) -> Reply<'a> {
+fn answered<'a>(model: &'a Model, question: &Question) -> Result<Reply<'a>, Refusal> {
     match question {
         Question::Compile { target } => compile(model, target.as_slice()),
         Question::EvaluateAt { target, at } => evaluate_at(model, target.as_slice(), *at),
         Question::Dump => dump(model),
-        Question::Operate(operator) => operate(*operator),
+        Question::Operate(operator) => Ok(operate(*operator)),
+    }
+}
+
+// What a model answers.
+pub fn asked<'a>(model: &'a Model, question: &Question) -> Reply<'a> {
+    // Kept: tried, `unwrap_or_else(Reply::Refused)` is refused, since the result of the function handed on names a lifetime that its
+    // argument does not.
+    match answered(model, question) {
+        Ok(reply) => reply,
+        Err(refusal) => Reply::Refused(refusal),
     }
 }

@@ -1,7 +1,13 @@
 // The answers of the line protocol.
+ghost use Rattle.std.specs.Prelude.{◌≡◌, Some};
+ghost use Rattle.std.proofs.Math.ListN.{get_elem?};
+ghost use Rattle.tag.specs.View.{bytes_of};
+ghost use Rattle.model.specs.View.{view};
+ghost use Rattle.asking_commands.specs.Answers.{ended, tag_of_row, order_words, reply_text};
+
 use geometry::vec3f::Vec3;
 use model::implicit_model::Model;
-use model::model_error::Refusal;
+use model::model_error::{Answer, Refusal};
 use record::writing::Record;
 use std::fmt;
 use tag::Tag;
@@ -21,7 +27,21 @@ pub enum Reply<'a> {
     NoCommand,
 }
 
-// The first so many positions of a model's component table.
+// How an edit ends.
+impl From<Answer> for Reply<'_> {
+    ghost from_gives = { λ answer reply. reply ≡ ended answer };
+
+    fn from(answer: Answer) -> Self {
+        match answer {
+            Ok(None) => Reply::Done,
+            Ok(Some(tag)) => Reply::Made(tag),
+            Err(refusal) => Reply::Refused(refusal),
+        }
+    }
+}
+
+// A model, and the first `count` of these positions in its component table.
+// Kept: memory is fixed, so the positions stand in an array with their count beside it, as compile answers them.
 #[derive(Clone, Copy)]
 pub struct Order<'a> {
     pub model: &'a Model,
@@ -29,20 +49,32 @@ pub struct Order<'a> {
     pub count: usize,
 }
 
+// The tag at a position of the component table, the empty one where there is no row.
+fn tag_at(model: &Model, position: usize) -> Tag
+    ensures { bytes_of result ≡ tag_of_row (get_elem? (view model.now).components position) }
+{
+    match held::reading::component_at(model, position) {
+        Some(row) => row.tag,
+        None => Tag::default(),
+    }
+}
+
 // How many there are, and their tags.
 impl fmt::Display for Order<'_> {
+    ghost output = { λ o. Some (order_words o) };
+
     fn fmt<W: fmt::Write>(&self, f: &mut fmt::Formatter<W>) -> fmt::Result {
         write!(f, "{}", self.count)?;
         for position in &self.positions[..self.count.min(64)] {
-            let row = held::reading::component_at(self.model, *position);
-            let tag = row.map(|row| row.tag).unwrap_or_default();
-            write!(f, " {}", TagWord(tag))?;
+            write!(f, " {}", TagWord(tag_at(self.model, *position)))?;
         }
         Ok(())
     }
 }
 
 impl fmt::Display for Reply<'_> {
+    ghost output = { reply_text };
+
     fn fmt<W: fmt::Write>(&self, f: &mut fmt::Formatter<W>) -> fmt::Result {
         match self {
             Reply::Done => write!(f, "ok"),

@@ -1,5 +1,5 @@
 // The root and the two distances, for a host that checks or measures them. They touch no model.
-// Kept: C passes each measure as a number of its own.
+// Kept: numbers one by one. With Sphere, Torus and Vec3 as parameters the exports would make what these functions make, and be no plainer.
 ghost use Rattle.std.specs.Prelude.{◌≡◌};
 ghost use Rattle.float.specs.RootOf.{root_of};
 ghost use Rattle.shapes.specs.Distance.{to_sphere, to_torus};

@@ -6,7 +6,7 @@ use model::implicit_model::Model;
 use script::answers::answer;
 use std::io::{self, BufRead, BufReader};
 
-// What stands behind it is no part of a line.
+// The bytes of a line past these are left out.
 const LONGEST_LINE: usize = 65536;
 
 // A line run on the model, or printed.
@@ -28,7 +28,8 @@ fn main(rt: HostRuntime) -> io::Result<()> {
     let mut input = BufReader::new(rt.alloc(), rt.reader())?;
     let mut line = Vec::new(rt.alloc());
     let mut model = held::reading::new();
-    // nothing says that the input ends, so the turns are counted
+    // Kept: split would give a last line that has no line feed too, which this program leaves out. Nothing says that the input ends, so
+    // the turns are counted.
     for _ in 0..u64::MAX {
         line.clear();
         input.read_until(b'\n', &mut line)?;

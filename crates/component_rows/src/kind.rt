@@ -1,7 +1,7 @@
 // The kinds that are asked: document 01's cases P5 to P10, and each kind of component.
 use std::fmt;
 
-#[derive(Clone, Copy)]
+#[derive(Clone, Copy, Debug)]
 pub enum Kind {
     Case,
     Constant,
@@ -21,25 +21,12 @@ pub enum Kind {
     Thickness,
 }
 
+// A kind by its name; `case` is document 01's, and no kind of component.
 impl fmt::Display for Kind {
     fn fmt<W: fmt::Write>(&self, f: &mut fmt::Formatter<W>) -> fmt::Result {
-        f.write_str(match *self {
-            Kind::Case => "case",
-            Kind::Constant => "Constant",
-            Kind::Sphere => "Sphere",
-            Kind::Torus => "Torus",
-            Kind::Multiply => "Multiply",
-            Kind::Add => "Add",
-            Kind::Subtract => "Subtract",
-            Kind::Divide => "Divide",
-            Kind::Lerp => "Lerp",
-            Kind::VariableLerp => "VariableLerp",
-            Kind::Remap => "Remap",
-            Kind::BooleanUnion => "BooleanUnion",
-            Kind::BooleanIntersection => "BooleanIntersection",
-            Kind::BooleanDifference => "BooleanDifference",
-            Kind::Offset => "Offset",
-            Kind::Thickness => "Thickness",
-        })
+        match self {
+            Kind::Case => f.write_str("case"),
+            kind => write!(f, "{kind:?}"),
+        }
     }
 }

@@ -35,12 +35,12 @@ const RANGES: [(usize, usize); 12] = [
     (16, 7),
 ];
 
-// The numbers over and over.
+// The number at a position, counted round the table.
 pub fn number(i: usize) -> f64 {
     float::bits::float_of(NUMBERS[i % 17])
 }
 
-// The ranges over and over.
+// The range at a position, counted round the table.
 pub fn range(i: usize) -> (f64, f64) {
     let (low, high) = RANGES[i % 12];
     (number(low), number(high))

@@ -43,6 +43,8 @@ fn case(n: usize) -> Question {
 
 // The nth question of a kind. The first 289 have all pairs of numbers as a and b, with c = 0, and the first 4913 all triples. A
 // parameter is the first of the three that is no input. Remap has every range onto every range.
+// Kept: a match, for each kind makes its component of other numbers; closures by kind would be these arms again, in a list beside the
+// kinds that could miss one.
 pub fn nth(kind: Kind, n: usize) -> Question {
     let x = number(n);
     let y = number(n / 17);
@@ -80,7 +82,7 @@ fn print<W: fmt::Write>(f: &mut fmt::Formatter<W>, x: f64) -> fmt::Result {
     write!(f, " {:016x}", bits_of(x))
 }
 
-// The parameters of a component that has numbers as such, and the inputs.
+// The parameters of Lerp, Offset, Thickness and Remap, and the three inputs.
 impl fmt::Display for Question {
     fn fmt<W: fmt::Write>(&self, f: &mut fmt::Formatter<W>) -> fmt::Result {
         match self.component {

@@ -5,6 +5,7 @@ use spelling::line_words::Words;
 use spelling::text::Text;
 
 // The inputs of a new operation: how many there are, and the tags of the first three, empty where there are fewer.
+// Kept: memory is fixed, so the tags stand in an array with their count beside it, and a count past three is legal input.
 #[derive(Drop)]
 pub struct Inputs {
     pub count: usize,
@@ -21,7 +22,9 @@ pub enum Operator {
 }
 
 impl Inputs {
-    // A count and so many tags.
+    // A count and so many tags. Tags that there is no room for are counted and not kept.
+    // Kept: one reading for these and for the rows of a record would need a public trait in spelling, and an impl of it for each kind of
+    // row, which is longer than this loop twice.
     fn read(words: &mut Words) -> Option<Inputs> {
         let count = words.decimal()?;
         let mut tags = [Text::new(), Text::new(), Text::new()];

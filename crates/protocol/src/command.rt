@@ -54,9 +54,9 @@ pub enum Change {
 }
 
 impl Change {
-    // The edit of this name, its arguments read from the words behind.
+    // The edits that add a component, by name, the arguments read from the words behind.
     #[tactic(auto, using(crate::proofs::Names::name_from_reads))]
-    fn read(name: &[u8], words: &mut Words) -> Option<Change>
+    fn read_adding(name: &[u8], words: &mut Words) -> Option<Change>
         ensures { IfSome result (λ edit. name.now ≡ change_name edit) }
     {
         match name {
@@ -77,6 +77,16 @@ impl Change {
                 tag: words.text()?,
                 component: words.component()?,
             }),
+            _ => None,
+        }
+    }
+
+    // The edit of this name, its arguments read from the words behind.
+    #[tactic(auto, using(crate::proofs::Names::name_from_reads))]
+    fn read(name: &[u8], words: &mut Words) -> Option<Change>
+        ensures { IfSome result (λ edit. name.now ≡ change_name edit) }
+    {
+        match name {
             b"add_input" => Some(Change::AddInput {
                 target: words.text()?,
                 source: words.text()?,
@@ -96,7 +106,7 @@ impl Change {
                 name: words.text()?,
                 value: data(words)?,
             }),
-            _ => None,
+            _ => Change::read_adding(name, words),
         }
     }
 }

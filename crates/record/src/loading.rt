@@ -48,20 +48,19 @@ impl Recorded for InputList {
     }
 }
 
+// Takes the word that stands at this place of every record; None where another stands there.
+fn expect(word: &[u8], words: &mut Words) -> Option<()> {
+    (words.next()? == word).then_some(())
+}
+
 // The model of the record that these words are, if they are one.
 pub fn load(mut words: Words) -> Option<Model> {
     let mut model = held::reading::new();
-    let b"default" = words.next()? else {
-        return None;
-    };
+    expect(b"default", &mut words)?;
     model.default = Place::read(&mut words)?;
-    let b"components" = words.next()? else {
-        return None;
-    };
+    expect(b"components", &mut words)?;
     model.component_count = read_rows(&mut model.components, &mut words)?;
-    let b"lists" = words.next()? else {
-        return None;
-    };
+    expect(b"lists", &mut words)?;
     model.list_count = read_rows(&mut model.lists, &mut words)?;
     match words.next() {
         None => Some(model),

@@ -1,5 +1,7 @@
 // A model written as a record, both tables in ascending tag order.
+ghost use Rattle.std.specs.Prelude.{Some};
 ghost use Rattle.std.specs.Iterator.{at_most};
+ghost use Rattle.record.specs.Text.{list_words};
 
 use model::implicit_model::{InputList, Model, Tagged};
 use std::fmt;
@@ -54,6 +56,8 @@ impl<'a, R: Tagged> Iterator for Ascending<'a, R> {
 struct ListWords<'a>(&'a InputList);
 
 impl fmt::Display for ListWords<'_> {
+    ghost output = { λ w. Some (list_words w.0.now) };
+
     fn fmt<W: fmt::Write>(&self, f: &mut fmt::Formatter<W>) -> fmt::Result {
         let places = self.0.live_places();
         write!(f, "{} {}", TagWord(self.0.tag), places.len())?;
@@ -64,7 +68,7 @@ impl fmt::Display for ListWords<'_> {
     }
 }
 
-// The record of a model.
+// The record of a model. It states no output: nothing says yet that the rows of `Ascending` are a table in the order of its tags.
 #[derive(Clone, Copy)]
 pub struct Record<'a>(pub &'a Model);
 

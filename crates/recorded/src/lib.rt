@@ -1,26 +1,43 @@
 // Recorded answers: the number that a word spells, and how many of a program's own answers agree with them.
 #![tactic(auto)]
 
-ghost use Rattle.std.specs.Prelude.{◌≡◌, ◌++◌, Some, IfSome, length, codes, decimal};
+ghost use Rattle.std.specs.Prelude.{◌≡◌, ◌++◌, Some, true, false, IfSome, MatchOption, length, codes, decimal};
 ghost use Rattle.std.specs.Str.Parse.{digits_value, without_leading_plus};
 ghost use Rattle.recorded.specs.Count.{counted};
+ghost use Rattle.recorded.specs.Number.{is_digit, spells};
 
 use std::fmt;
+
+// Whether a byte is a hexadecimal digit in lower case.
+fn is_digit(byte: u8) -> bool
+    ensures { result ≡ is_digit byte }
+{
+    matches!(byte, b'0'..=b'9' | b'a'..=b'f')
+}
+
+// Whether a word is 16 hexadecimal digits in lower case.
+fn spells(word: &str) -> bool
+    ensures { result ≡ spells word.now }
+{
+    let whole = word.len() == 16;
+    whole && word.bytes().all(is_digit)
+}
 
 // The number that 16 hexadecimal digits in lower case spell.
 pub fn number(word: &str) -> Option<u64>
     ensures length { IfSome result (λ n. length word.now ≡ 16) }
+    ensures found { MatchOption result (spells word.now ≡ false) (λ _. spells word.now ≡ true) }
     ensures value { IfSome result (λ n. n ≡ digits_value 16 (without_leading_plus word.now)) }
 {
-    let lower = word.bytes().all(|b| matches!(b, b'0'..=b'9' | b'a'..=b'f'));
-    if lower && word.len() == 16 {
+    let spelled = spells(word);
+    if spelled {
         u64::from_str_radix(word, 16).ok()
     } else {
         None
     }
 }
 
-// What became of a row: its answer is the recorded one, or another, or nobody can read it.
+// What became of a row: its answer is the recorded one, or another, or the row could not be read.
 #[derive(Clone, Copy)]
 pub enum Outcome {
     Agreed,

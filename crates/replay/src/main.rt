@@ -2,16 +2,18 @@
 // the Rust answered, and where docs/DIFFERENCES.md names a departure, `! CLASS ANSWER` is what ours has to be.
 #![tactic(auto)]
 
+ghost use Rattle.std.specs.Prelude.{◌++◌, Some, codes, decimal};
+
 use model::implicit_model::Model;
 use script::answers::answer;
 use std::fmt;
 use std::io::{self, BufRead, BufReader};
 
-// What stands behind it is no part of a line.
+// The bytes of a line past these are left out.
 const LONGEST_LINE: usize = 65536;
 
 // How many answers were held to the Rust's, and how many of them are the same, differ as told, or are not explained.
-#[derive(Clone, Copy)]
+#[derive(Clone, Copy, Default)]
 struct Tally {
     answers: u64,
     same: u64,
@@ -20,6 +22,8 @@ struct Tally {
 }
 
 impl fmt::Display for Tally {
+    ghost output = { λ t. Some (decimal t.answers ++ (codes " answers of the Rust: " ++ (decimal t.same ++ (codes " the same, " ++ (decimal t.told ++ (codes " differ as docs/DIFFERENCES.md says, " ++ (decimal t.unexplained ++ codes " unexplained"))))))) };
+
     fn fmt<W: fmt::Write>(&self, f: &mut fmt::Formatter<W>) -> fmt::Result {
         let Tally {
             answers,
@@ -111,14 +115,10 @@ fn main(rt: HostRuntime) -> io::Result<()> {
         model: held::reading::new(),
         ours: String::new(rt.alloc()),
         open: false,
-        tally: Tally {
-            answers: 0,
-            same: 0,
-            told: 0,
-            unexplained: 0,
-        },
+        tally: Tally::default(),
     };
-    // nothing says that the input ends, so the turns are counted
+    // Kept: split would give a last line that has no line feed too, which this program leaves out. Nothing says that the input ends, so
+    // the turns are counted.
     for _ in 0..u64::MAX {
         line.clear();
         input.read_until(b'\n', &mut line)?;

@@ -3,18 +3,8 @@ use asking_commands::asked;
 use asking_commands::reply::Reply;
 use edit_commands::edited;
 use model::implicit_model::Model;
-use model::model_error::Answer;
 use protocol::command::Command;
 use record::loading::load;
-
-// The answer of an edit.
-fn ended<'a>(answer: Answer) -> Reply<'a> {
-    match answer {
-        Ok(None) => Reply::Done,
-        Ok(Some(tag)) => Reply::Made(tag),
-        Err(refusal) => Reply::Refused(refusal),
-    }
-}
 
 // A line run on a model. One that is no command leaves it as it is.
 pub fn answer<'a>(model: &'a mut Model, line: &[u8]) -> Reply<'a> {
@@ -33,7 +23,7 @@ pub fn answer<'a>(model: &'a mut Model, line: &[u8]) -> Reply<'a> {
         Some(Command::Change(change)) => {
             let edited = edited(model, &change);
             *model = edited.model;
-            ended(edited.answer)
+            Reply::from(edited.answer)
         }
         Some(Command::Ask(question)) => asked(model, &question),
         None => Reply::NoCommand,

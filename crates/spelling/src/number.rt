@@ -18,11 +18,8 @@ pub fn bits(word: &[u8]) -> Option<u64> {
     if word.len() != 16 {
         return None;
     }
-    let mut bits = 0;
-    for byte in word {
-        bits = bits << 4 | u64::from(digit(*byte)?);
-    }
-    Some(bits)
+    word.iter()
+        .try_fold(0, |bits, byte| Some(bits << 4 | u64::from(digit(*byte)?)))
 }
 
 // The number with one decimal digit more, where it has 19 significant ones at most: each of these fits.

@@ -7,10 +7,10 @@ use crate::number::digit;
 use arrayvec::ArrayVec;
 use tag::Tag;
 
-// The bytes that a word spells. No tag or name that fits has 64, so what is behind them changes no answer.
+// The first 64 bytes that a word spells. A tag or name that fits has fewer, so the bytes past these change no answer.
 pub type Text = ArrayVec<u8, 64>;
 
-// The tag of a record. One that is too long keeps a length that is, so that its model is found invalid.
+// The tag of a record. A text of more than 32 bytes has the length 33 as a tag, so that its model is found invalid.
 pub fn record_tag(text: &Text) -> Tag
     ensures fits { array_vec_len text.now ≤ 32 → Made (take 32 text.now.items) result }
     ensures too_long { 32 < array_vec_len text.now → result.len ≡ 33 }

@@ -1,4 +1,7 @@
 // Numbers, points and components as words.
+ghost use Rattle.std.specs.Prelude.{◌≡◌, Some};
+ghost use Rattle.word_writing.specs.Kinds.{float_word, vec3_words, kind_word, component_words};
+
 use crate::BitsWord;
 use component::model_component::Component;
 use float::bits::bits_of;
@@ -12,6 +15,8 @@ use std::fmt;
 pub struct FloatWord(pub f64);
 
 impl fmt::Display for FloatWord {
+    ghost output = { λ w. Some (float_word w.0) };
+
     fn fmt<W: fmt::Write>(&self, f: &mut fmt::Formatter<W>) -> fmt::Result {
         BitsWord(bits_of(self.0)).fmt(f)
     }
@@ -22,9 +27,34 @@ impl fmt::Display for FloatWord {
 pub struct Vec3Words(pub Vec3);
 
 impl fmt::Display for Vec3Words {
+    ghost output = { λ w. Some (vec3_words w.0) };
+
     fn fmt<W: fmt::Write>(&self, f: &mut fmt::Formatter<W>) -> fmt::Result {
         let Vec3 { x, y, z } = self.0;
         write!(f, "{} {} {}", FloatWord(x), FloatWord(y), FloatWord(z))
+    }
+}
+
+// The word of a component's kind.
+fn kind_word(component: Component) -> &'static str
+    ensures { result.now ≡ kind_word component }
+{
+    match component {
+        Component::Constant(_) => "constant",
+        Component::Sphere(_) => "sphere",
+        Component::Torus(_) => "torus",
+        Component::Multiply => "Multiply",
+        Component::Add => "Add",
+        Component::Subtract => "Subtract",
+        Component::Divide => "Divide",
+        Component::Lerp(_) => "Lerp",
+        Component::VariableLerp => "VariableLerp",
+        Component::Remap { .. } => "Remap",
+        Component::BooleanUnion => "BooleanUnion",
+        Component::BooleanIntersection => "BooleanIntersection",
+        Component::BooleanDifference => "BooleanDifference",
+        Component::Offset(_) => "Offset",
+        Component::Thickness(_) => "Thickness",
     }
 }
 
@@ -33,27 +63,27 @@ impl fmt::Display for Vec3Words {
 pub struct ComponentWords(pub Component);
 
 impl fmt::Display for ComponentWords {
+    ghost output = { λ w. Some (component_words w.0) };
+
     fn fmt<W: fmt::Write>(&self, f: &mut fmt::Formatter<W>) -> fmt::Result {
+        f.write_str(kind_word(self.0))?;
         match self.0 {
-            Component::Constant(value) => write!(f, "constant {}", FloatWord(value)),
+            Component::Constant(x)
+            | Component::Lerp(x)
+            | Component::Offset(x)
+            | Component::Thickness(x) => write!(f, " {}", FloatWord(x)),
             Component::Sphere(Sphere { centre, radius }) => {
-                write!(f, "sphere {} {}", Vec3Words(centre), FloatWord(radius))
+                write!(f, " {} {}", Vec3Words(centre), FloatWord(radius))
             }
             Component::Torus(Torus { centre, r, t }) => {
                 write!(
                     f,
-                    "torus {} {} {}",
+                    " {} {} {}",
                     Vec3Words(centre),
                     FloatWord(r),
                     FloatWord(t)
                 )
             }
-            Component::Multiply => write!(f, "Multiply"),
-            Component::Add => write!(f, "Add"),
-            Component::Subtract => write!(f, "Subtract"),
-            Component::Divide => write!(f, "Divide"),
-            Component::Lerp(factor) => write!(f, "Lerp {}", FloatWord(factor)),
-            Component::VariableLerp => write!(f, "VariableLerp"),
             Component::Remap {
                 from_min,
                 from_max,
@@ -61,17 +91,13 @@ impl fmt::Display for ComponentWords {
                 to_max,
             } => write!(
                 f,
-                "Remap {} {} {} {}",
+                " {} {} {} {}",
                 FloatWord(from_min),
                 FloatWord(from_max),
                 FloatWord(to_min),
                 FloatWord(to_max)
             ),
-            Component::BooleanUnion => write!(f, "BooleanUnion"),
-            Component::BooleanIntersection => write!(f, "BooleanIntersection"),
-            Component::BooleanDifference => write!(f, "BooleanDifference"),
-            Component::Offset(distance) => write!(f, "Offset {}", FloatWord(distance)),
-            Component::Thickness(t) => write!(f, "Thickness {}", FloatWord(t)),
+            _ => Ok(()),
         }
     }
 }

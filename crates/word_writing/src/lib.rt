@@ -3,6 +3,10 @@
 
 pub mod kind;
 
+ghost use Rattle.std.specs.Prelude.{Some};
+ghost use Rattle.tag.specs.View.{bytes_of};
+ghost use Rattle.word_writing.specs.Words.{bits_word, tag_word, place_word};
+
 use model::implicit_model::Place;
 use std::fmt;
 use tag::Tag;
@@ -12,8 +16,11 @@ use tag::Tag;
 pub struct BitsWord(pub u64);
 
 impl fmt::Display for BitsWord {
+    ghost output = { λ w. Some (bits_word w.0) };
+
     fn fmt<W: fmt::Write>(&self, f: &mut fmt::Formatter<W>) -> fmt::Result {
-        write!(f, "{:016x}", self.0)
+        let BitsWord(bits) = *self;
+        write!(f, "{bits:016x}")
     }
 }
 
@@ -22,6 +29,8 @@ impl fmt::Display for BitsWord {
 pub struct TagWord(pub Tag);
 
 impl fmt::Display for TagWord {
+    ghost output = { λ w. Some (tag_word (bytes_of w.0)) };
+
     fn fmt<W: fmt::Write>(&self, f: &mut fmt::Formatter<W>) -> fmt::Result {
         let bytes = self.0.as_bytes();
         if bytes.is_empty() {
@@ -39,6 +48,8 @@ impl fmt::Display for TagWord {
 pub struct PlaceWord(pub Place);
 
 impl fmt::Display for PlaceWord {
+    ghost output = { λ w. Some (place_word w.0) };
+
     fn fmt<W: fmt::Write>(&self, f: &mut fmt::Formatter<W>) -> fmt::Result {
         match self.0 {
             Some(tag) => TagWord(tag).fmt(f),

@@ -3,17 +3,8 @@ use Rattle.std.proofs.Common.{rules}
 use Rattle.std.proofs.lemmas.Slice.Eq.{text_from_reads}
 use Rattle.protocol.proofs.command.Change.read.Goals as goal
 
-pub returns-in_ok-component-in-97-2 : goal.returns-in_ok-component-in-97-2
-returns-in_ok-component-in-97-2 c = text_from_reads _ _ (search rules) (search rules)
-
 pub returns-in_ok-decimal-in-114 : goal.returns-in_ok-decimal-in-114
 returns-in_ok-decimal-in-114 c = text_from_reads _ _ (search rules) (search rules)
-
-pub returns-in_ok-read_given-in-97-3 : goal.returns-in_ok-read_given-in-97-3
-returns-in_ok-read_given-in-97-3 c = text_from_reads _ _ (search rules) (search rules)
-
-pub returns-in_ok-component-in-97-4 : goal.returns-in_ok-component-in-97-4
-returns-in_ok-component-in-97-4 c = text_from_reads _ _ (search rules) (search rules)
 
 pub returns-in_ok-text-in-114-2 : goal.returns-in_ok-text-in-114-2
 returns-in_ok-text-in-114-2 c = text_from_reads _ _ (search rules) (search rules)
