@@ -25,7 +25,7 @@ use Rattle.model_bytes.specs.ModelBytes.{headed, model_in}
 use Rattle.model_bytes.specs.Calls.{Decodes, Spares, Holds}
 use Rattle.report.specs.Report.{reported, of_answer}
 use Rattle.storing.specs.Called.{answer_in, Called}
-use Rattle.storing.specs.Steps.{Put, Written, Stored}
+use Rattle.storing.specs.Steps.{Told, Put, Written, Stored}
 use Rattle.storing.proofs.Laws.Told.{answer-apart}
 
 -- ---- the bytes
@@ -130,3 +130,17 @@ module _ (e : Edit) (s : List ℕ) {out after : List ℕ} {r : ℕ} where
       model = λ m g z. holds_after (model-long s g) (passing m g z (valid m) refl) (same m g z) w.written z;
       kept = w.written.kept;
     }
+
+-- bytes that hold no model are 7, and not one is changed
+module _ (e : Edit) (s : List ℕ) (n : model_in s ≡ none) where
+  answer_7 : refused 7 empty 0 ≡ answer_in e (model_in s)
+  answer_7 = sym (ap (answer_in e) n)
+
+  pub called_7 : {out after : List ℕ} {r : ℕ} → Told (refused 7 empty 0) out after r → Called e s s out after r
+  called_7 {out} w = record {
+    code = w.code ∙ ap (λ (a : Answer). (of_answer a).code) answer_7;
+    report = w.report ∙ ap (λ (a : Answer). reported out (of_answer a)) answer_7;
+    apart = λ q z. absurd (let k : 0 ≡ 7 = sym z ∙ w.code in let y : ⊥ = omega arith in y);
+    model = λ m g z. absurd (none-ne-some m (sym n ∙ g));
+    kept = λ k. refl;
+  }
