@@ -1,5 +1,8 @@
 // Towards the root of a double.
 
+// Kept: three tables that one index reads, as tools/guess writes them, one after the other. Rows would name their three fields 256 times,
+// and near_root alone reads them.
+
 // A number in each stretch, of 256 from a half to 2: the square of one with 26 digits, so that no digit of it is lost.
 static SQUARES: [f64; 256] = [
     0.5019521457327167,

@@ -46,6 +46,13 @@ target Absent = None
 target Gap = None
 target Past = None
 
+-- the component that a wire leads to: a node below 64
+abbrev pub component_target : Wire → Option ℕ
+component_target (To x) = cond (ltb x 64) (Some x) None
+component_target Absent = None
+component_target Gap = None
+component_target Past = None
+
 -- the wire to the node of a number; absent where there is none
 abbrev pub wire_to : ℕ → Wire
 wire_to x = cond (ltb x 192) (To x) Absent
@@ -69,22 +76,31 @@ inputs_of w i = targets (wires_of w i)
 
 -- ---- lists of nodes
 
--- distinct nodes
-pub record AreDistinct (xs : List ℕ) : Type 0 where
-  pub small : (a : ℕ) → a ∈ xs → a < 192
+-- distinct nodes below n
+pub record AreDistinct (n : ℕ) (xs : List ℕ) : Type 0 where
+  pub small : (a : ℕ) → a ∈ xs → a < n
   pub once : (ahead : List ℕ) (a : ℕ) (rest : List ℕ) → xs ≡ ahead ++ (a ∷ rest) → ¬ (a ∈ ahead)
 
--- a mark for each of the 192 nodes: whether it stands in xs
-pub record Marks (xs : List ℕ) (m : List Bool) : Type 0 where
-  pub m_length : length m ≡ 192
-  pub marks : (a : ℕ) → a < 192 → (get_or m a false ≡ true) ↔ (a ∈ xs)
+-- a mark for each node below n: whether it stands in xs
+pub record MarksBelow (n : ℕ) (xs : List ℕ) (m : List Bool) : Type 0 where
+  pub m_length : length m ≡ n
+  pub marks : (a : ℕ) → a < n → (get_or m a false ≡ true) ↔ (a ∈ xs)
 
--- the first n entries of `at` are distinct nodes, and m marks them
-pub record Listed (at : List ℕ) (n : ℕ) (m : List Bool) : Type 0 where
-  pub at_length : length at ≡ 192
-  pub n_le : n ≤ 192
-  pub nodes : AreDistinct (take n at)
-  pub marked : Marks (take n at) m
+-- a mark for each of the 192 nodes
+abbrev pub Marks : List ℕ → List Bool → Type 0
+Marks xs m = MarksBelow 192 xs m
+
+-- the first k entries of `at` are distinct nodes below n, and m marks them
+pub record Listed (n : ℕ) (at : List ℕ) (k : ℕ) (m : List Bool) : Type 0 where
+  pub at_length : length at ≡ n
+  pub k_le : k ≤ n
+  pub nodes : AreDistinct n (take k at)
+  pub marked : MarksBelow n (take k at) m
+
+-- xs after x was pushed: it has joined at the end, if it is below n and was not there
+pub data Pushed (n : ℕ) (xs : List ℕ) (x : ℕ) : List ℕ → Type 0 where
+  stayed : (n ≤ x) ⊎ (x ∈ xs) → Pushed n xs x xs
+  joined : x < n → ¬ (x ∈ xs) → Pushed n xs x (xs ++ (x ∷ []))
 
 -- all inputs of node i stand in xs; or one does not
 abbrev pub Ready : List (List Wire) → List ℕ → ℕ → Type 0
@@ -100,14 +116,9 @@ Next w xs i = (¬ (i ∈ xs)) × Ready w xs i
 abbrev pub NotNext : List (List Wire) → List ℕ → ℕ → Type 0
 NotNext w xs i = (i ∈ xs) ⊎ Waiting w xs i
 
--- xs after meeting a wire: the node that it leads to has joined, if it leads to one that is not there
-pub data Met (xs : List ℕ) (e : Wire) : List ℕ → Type 0 where
-  stayed : ((x : ℕ) → target e ≡ Some x → x ∈ xs) → Met xs e xs
-  joined : (x : ℕ) → target e ≡ Some x → ¬ (x ∈ xs) → Met xs e (xs ++ (x ∷ []))
-
 -- xs after meeting the wires es: the nodes that they lead to have joined at its end, each once
 pub record Grown (xs : List ℕ) (es : List Wire) (ys : List ℕ) : Type 0 where
-  pub nodes : AreDistinct xs → AreDistinct ys
+  pub nodes : AreDistinct 192 xs → AreDistinct 192 ys
   pub more : List ℕ
   pub is : ys ≡ xs ++ more
   pub has : (e : Wire) → e ∈ es → (b : ℕ) → target e ≡ Some b → b ∈ ys
@@ -115,7 +126,7 @@ pub record Grown (xs : List ℕ) (es : List Wire) (ys : List ℕ) : Type 0 where
 
 -- xs is the reach of t, each node once
 pub record IsReach (w : List (List Wire)) (t : ℕ) (xs : List ℕ) : Type 0 where
-  pub nodes : AreDistinct xs
+  pub nodes : AreDistinct 192 xs
   pub all : (a : ℕ) → Reaches (inputs_of w) t a → a ∈ xs
   pub only : (a : ℕ) → a ∈ xs → Reaches (inputs_of w) t a
 

@@ -1,22 +1,21 @@
 // Distinct nodes in a row.
-ghost use Rattle.std.specs.Prelude.{ℕ, ◌≡◌, ◌<◌, true, false, Some, [], ◌∷◌, ◌++◌};
-ghost use Rattle.nodes.specs.Nodes.{◌∈◌, target, AreDistinct, Met, Grown, Marks};
+ghost use Rattle.std.specs.Prelude.{◌≡◌, ◌<◌, true, false, []};
+ghost use Rattle.nodes.specs.Nodes.{◌∈◌, AreDistinct, MarksBelow, Pushed};
 
-use crate::Wire;
 use std::marker::Model;
 
-// The nodes in the order in which they joined, and a mark for each that is among them.
+// Nodes below N, in the order in which they joined, and a mark for each that is among them.
 // Kept: memory is fixed, so the nodes stand in an array with their count beside it.
-// Kept: not `Copy`, which of a type that clauses see as its nodes asks a law `inverse (view l) ≡ l`: false, since the nodes do not tell what stands past the count.
+// Kept: not `Copy`. Of a type with a view it asks the law `inverse (view l) ≡ l`, which is false here: the nodes do not tell what stands in the array past the count.
 #[derive(Clone, Drop)]
-pub struct NodeList {
-    at: [usize; 192],
+pub struct NodeList<const N: usize> {
+    at: [usize; N],
     count: usize,
-    marks: [bool; 192],
+    marks: [bool; N],
 }
 
 // Clauses see the nodes.
-impl Model for NodeList {
+impl<const N: usize> Model for NodeList<N> {
     ghost use Rattle.std.specs.Prelude.{ℕ, List, take};
     ghost use Rattle.nodes.specs.Nodes.{Listed};
 
@@ -24,80 +23,49 @@ impl Model for NodeList {
 
     ghost view = { λ l. take l.count l.at };
 
-    ghost invariant = { λ l. Listed l.at l.count l.marks };
+    ghost invariant = { λ l. Listed N l.at l.count l.marks };
 }
 
-impl NodeList {
-    pub(crate) fn new() -> NodeList
+impl<const N: usize> NodeList<N> {
+    pub fn new() -> NodeList<N>
         ensures { result ≡ [] }
     {
         NodeList {
-            at: [0; 192],
+            at: [0; N],
             count: 0,
-            marks: [false; 192],
+            marks: [false; N],
         }
     }
 
     pub fn nodes(&self) -> &[usize]
         ensures same { result.now ≡ self.now }
-        ensures nodes { AreDistinct result.now }
+        ensures nodes { AreDistinct N result.now }
     {
         &self.at[..self.count]
     }
 
-    pub fn marks(&self) -> &[bool; 192]
-        ensures { Marks self.now result.now }
+    pub fn marks(&self) -> &[bool; N]
+        ensures { MarksBelow N self.now result.now }
     {
         &self.marks
     }
 
-    pub(crate) fn contains(&self, x: usize) -> bool
-        requires { x < 192 }
+    pub fn contains(&self, x: usize) -> bool
         ensures yes { result ≡ true → x ∈ self.now }
         ensures no { result ≡ false → ¬ (x ∈ self.now) }
     {
-        self.marks[x]
+        x < N && self.marks[x]
     }
 
-    // x joins.
-    pub(crate) fn push(&mut self, x: usize)
-        requires node { x < 192 }
-        requires new { ¬ (x ∈ self.old) }
-        ensures { self.new ≡ self.old ++ x ∷ [] }
+    // x joins, if it is a node and not there yet.
+    pub fn push(&mut self, x: usize)
+        ensures { Pushed N self.old x self.new }
     {
+        if N <= x || self.contains(x) {
+            return;
+        }
         self.at[self.count] = x;
         self.marks[x] = true;
         self.count += 1;
-    }
-
-    // A place is served: it has no node, or one that is there.
-    pub(crate) fn serves(&self, wire: Wire) -> bool
-        ensures yes { result ≡ true → (x : ℕ) → target wire ≡ Some x → x ∈ self.now }
-        ensures no { result ≡ false → (x : ℕ) × (target wire ≡ Some x) × (¬ (x ∈ self.now)) }
-    {
-        match wire.node() {
-            Some(x) => self.contains(x),
-            None => true,
-        }
-    }
-
-    // The node that a wire leads to joins, if it is not there.
-    fn meet(&mut self, wire: Wire)
-        ensures { Met self.old wire self.new }
-    {
-        if let Some(x) = wire.node() {
-            if !self.contains(x) {
-                self.push(x);
-            }
-        }
-    }
-
-    // The nodes that wires lead to join, where they are not there.
-    pub(crate) fn meet_all(&mut self, wires: &[Wire])
-        ensures { Grown self.old wires.now self.new }
-    {
-        for wire in wires {
-            self.meet(*wire);
-        }
     }
 }

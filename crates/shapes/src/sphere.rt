@@ -25,6 +25,7 @@ impl Sphere {
     }
 
     // The distance from (x, y, z) to this sphere: below 0 inside.
+    // Kept: x, y, z apart, since the `eval` of the Rust takes them so.
     #[tactic(auto, unfolding(crate::specs::Distance::to_sphere))]
     pub fn eval(self, x: f64, y: f64, z: f64) -> f64
         ensures { result ≡ to_sphere self x y z }

@@ -44,16 +44,13 @@ impl Torus {
     }
 
     // The distance from (x, y, z) to this torus: below 0 inside.
+    // Kept: x, y, z apart, since the `eval` of the Rust takes them so.
     #[tactic(auto, unfolding(crate::specs::Distance::to_torus))]
     pub fn eval(self, x: f64, y: f64, z: f64) -> f64
         ensures { result ≡ to_torus self x y z }
     {
-        let centre = self.centre;
-        let a = x - centre.x;
-        let b = y - centre.y;
-        let c = z - centre.z;
-        let d = self.r - root(a * a + c * c);
-        let t = self.t;
-        signed_root(d * d + b * b - t * t)
+        let way = Vec3::new(x, y, z) - self.centre;
+        let d = self.r - root(way.x * way.x + way.z * way.z);
+        signed_root(d * d + way.y * way.y - self.t * self.t)
     }
 }

@@ -7,7 +7,7 @@ ghost use Rattle.tag.specs.Fitted.{Fitted};
 use crate::{Tag, tag_of};
 
 // The last decimal digit of k.
-// Kept: a numbered tag takes the last four digits of a number that may be larger, where Display prints all, into a buffer.
+// Kept: not `Display`, which prints all digits; a numbered tag takes the last four.
 fn digit(k: usize) -> u8
     ensures { result ≡ 48 + k % 10 }
 {

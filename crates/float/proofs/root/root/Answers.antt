@@ -34,19 +34,19 @@ returns-then-is_nan c =
     let f = fitting c.args.x c.well_formed.0.1 in
     root_only c.args.x c.args.x f f (subst (λ (v : Float). IsRoot v v) (sym (nan_of c.args.x (sym c.if-is_nan.ensures.value))) refl)
 
-pub returns-then-b-ge4503599627370496 : goal.returns-then-b-ge4503599627370496
-returns-then-b-ge4503599627370496 c = by_pattern c.args.x c.well_formed.0.1 c.root.result c.root.type_inv c.root.ensures
+pub returns-then-b-ge-EXPONENT_UNIT : goal.returns-then-b-ge-EXPONENT_UNIT
+returns-then-b-ge-EXPONENT_UNIT c = by_pattern c.args.x c.well_formed.0.1 c.root.result c.root.type_inv c.root.ensures
 
 pub returns-then-b-eq0 : goal.returns-then-b-eq0
 returns-then-b-eq0 c = own c.args.x c.well_formed.0.1 0 c.if-b-eq0.true own_zero
 
-pub returns-then-b-lt9218868437227405312 : goal.returns-then-b-lt9218868437227405312
-returns-then-b-lt9218868437227405312 c = by_pattern c.args.x c.well_formed.0.1 c.slow_root.result c.slow_root.type_inv c.slow_root.ensures
+pub returns-then-b-lt-INFINITY_BITS : goal.returns-then-b-lt-INFINITY_BITS
+returns-then-b-lt-INFINITY_BITS c = by_pattern c.args.x c.well_formed.0.1 c.slow_root.result c.slow_root.type_inv c.slow_root.ensures
 
-pub returns-then-b-eq9218868437227405312 : goal.returns-then-b-eq9218868437227405312
-returns-then-b-eq9218868437227405312 c =
+pub returns-then-b-eq-INFINITY_BITS : goal.returns-then-b-eq-INFINITY_BITS
+returns-then-b-eq-INFINITY_BITS c =
     ⊎_elim (λ e. own c.args.x c.well_formed.0.1 _ e own_inf) (λ e. own c.args.x c.well_formed.0.1 _ e.1 own_minus_zero)
-    c.then-b-eq9218868437227405312.either
+    c.then-b-eq-INFINITY_BITS.either
 
 pub returns : goal.returns
 returns c =

@@ -1,9 +1,13 @@
 -- `float::root::Normal::root_with` meets its contract: `Laws/Even.antt` and `Laws/Normal.antt`. Assumes nothing.
-use mathlib.Core.Path.{◌≡◌, sym, subst}
+use mathlib.Core.Path.{◌≡◌, refl, sym, subst}
+use mathlib.Core.Bool.{Bool, true, false}
 use Prim.Native.Nat.{ℕ, ◌+◌, ◌*◌, ◌/◌, ◌%◌, ◌^◌, ◌≤◌, ◌<◌}
 use native.Mathlib.Nat.{mod-eq_of_lt}
 use native.Mathlib.Omega.{arith}
 use lib.Dec.{T}
+use lib.Ieee.{Float}
+use Rattle.std.specs.Prelude.{IfSome}
+use Rattle.std.specs.Bool.{then_some}
 use Rattle.float.specs.Units.{val}
 use Rattle.float.specs.Pattern.{RootPattern}
 use Rattle.float.specs.Rounded.{IsRounded}
@@ -45,12 +49,18 @@ module _ (b g : ℕ) (lo : 4503599627370496 ≤ b) (hi : b < 9218868437227405312
       (subst (λ (n : ℕ). IsRounded (n * 4503599627370496) g) (taken_down q (b / 4503599627370496) (omega arith))
       (subst (IsRounded (q * 2048 % 18446744073709551616 / 2 ^ (10 + b / 4503599627370496 % 2) * 4503599627370496)) back R))))
 
-pub float_from_bits-result : goal.float_from_bits-result
-float_from_bits-result c = no_nan_bits _ (omega (arith, c.args.self.finite, c.root_exponent.ensures))
+pub float_from_bits-root : goal.float_from_bits-root
+float_from_bits-root c = no_nan_bits _ (omega (arith, c.args.self.finite, c.root_exponent.ensures))
 
-pub returns-then-is_rounded : goal.returns-then-is_rounded
-returns-then-is_rounded c =
+some_if : (b : Bool) (x : Float) (P : Float → Type 0) → (b ≡ true → P x) → IfSome (then_some b x) P
+some_if true x P h = h refl
+some_if false x P h = tt
+
+pub returns : goal.returns
+returns c =
     let b = c.args.self in
+    rw c.then_some.ensures
+    (some_if c.is_rounded.result _ _ (λ e.
     pattern_root b.bits _ (omega (arith, b.not_subnormal)) b.finite
     (subst (λ (n : ℕ). RootPattern (val b.bits * 4503599627370496) (n + c.args.g)) (sym c.root_exponent.ensures)
-    (is_pattern b.bits c.args.g b.not_subnormal b.finite c.requires.1 (c.is_rounded.ensures (subst T (sym c.if-is_rounded.true) tt))))
+    (is_pattern b.bits c.args.g b.not_subnormal b.finite c.requires.1 (c.is_rounded.ensures (subst T (sym e) tt))))))

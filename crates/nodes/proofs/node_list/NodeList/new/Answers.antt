@@ -3,4 +3,4 @@ use Rattle.nodes.proofs.Laws.Lists.{listed_none}
 use Rattle.nodes.proofs.node_list.NodeList.new.Goals as goal
 
 pub invariant_of-result : goal.invariant_of-result
-invariant_of-result c = listed_none
+invariant_of-result g c = listed_none g.row.N
