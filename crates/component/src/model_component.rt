@@ -82,6 +82,7 @@ impl Component {
     }
 
     // Its number at p, where a, b, c are the numbers of its inputs 0, 1, 2.
+    // Kept: three numbers and no array, for each case of the definition would read its inputs by index, and say no more plainly what it computes.
     #[tactic(auto, unfolding(crate::specs::Value::compute))]
     pub fn compute(self, p: Vec3, a: f64, b: f64, c: f64) -> f64
         ensures { result ≡ compute self p a b c }

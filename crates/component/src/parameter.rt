@@ -1,5 +1,6 @@
 // Parameters: what one is set to, and the rules on its number.
-ghost use Rattle.std.specs.Prelude.{◌≡◌};
+ghost use Rattle.std.specs.Prelude.{◌≡◌, cond, Some, None};
+ghost use Rattle.tag.specs.Tags.{is};
 ghost use Rattle.component.specs.Parameter.{clamped, too_near};
 
 use geometry::vec3f::Vec3;
@@ -30,6 +31,14 @@ pub struct Parameter {
 pub enum ParameterError {
     DoesNotFit,
     TooNear,
+}
+
+// The value, where the name is the one wanted.
+#[tactic(auto, using(tag::specs::Comparing::pointwise_is))]
+pub fn under<T: Drop>(name: &[u8], wanted: &[u8], value: T) -> Option<T>
+    ensures { result ≡ cond (is name.now wanted.now) (Some value) None }
+{
+    (name == wanted).then_some(value)
 }
 
 // A factor within 0 and 1. NaN and -0 pass.

@@ -7,8 +7,8 @@ ghost use Rattle.component_layout.specs.Numbers.{four, one, plain, numbers_of, W
 use component::model_component::Component;
 
 // A kind and its five values: numbers, or their bits. Those that a kind does not use are +0.
-// Kept: a number for the kind and words a to e, since the C interface and the layout of bytes have them.
-#[derive(Clone, Copy, PartialEq, Eq)]
+// Kept: a number for the kind, since the C interface and the layout have one; fields a to e and no array, since the definitions of specs/ name them so, and would read each by index.
+#[derive(Clone, Copy, Default, PartialEq, Eq)]
 pub struct Numbered<T> {
     pub kind: u64,
     pub a: T,
@@ -22,29 +22,60 @@ pub type Numbers = Numbered<f64>;
 
 pub type ComponentWords = Numbered<u64>;
 
-fn four(kind: u64, a: f64, b: f64, c: f64, d: f64) -> Numbers
-    ensures { result ≡ four kind a b c d }
+impl<T> Numbered<T> {
+    // f of each of the five, under the same kind.
+    pub(crate) fn map<U, F: Fn(T) -> U>(self, f: F) -> Numbered<U>
+        requires { F.IsAlwaysCallable f }
+        ensures kind { result.kind ≡ self.kind }
+        ensures a { F.post f self.a result.a }
+        ensures b { F.post f self.b result.b }
+        ensures c { F.post f self.c result.c }
+        ensures d { F.post f self.d result.d }
+        ensures e { F.post f self.e result.e }
+    {
+        let Numbered {
+            kind,
+            a,
+            b,
+            c,
+            d,
+            e,
+        } = self;
+        Numbered {
+            kind,
+            a: f(a),
+            b: f(b),
+            c: f(c),
+            d: f(d),
+            e: f(e),
+        }
+    }
+}
+
+fn plain(kind: u64) -> Numbers
+    ensures { result ≡ plain kind }
 {
     Numbers {
         kind,
-        a,
-        b,
-        c,
-        d,
-        e: 0.0,
+        ..Numbers::default()
     }
 }
 
 fn one(kind: u64, a: f64) -> Numbers
     ensures { result ≡ one kind a }
 {
-    four(kind, a, 0.0, 0.0, 0.0)
+    Numbers { a, ..plain(kind) }
 }
 
-fn plain(kind: u64) -> Numbers
-    ensures { result ≡ plain kind }
+fn four(kind: u64, a: f64, b: f64, c: f64, d: f64) -> Numbers
+    ensures { result ≡ four kind a b c d }
 {
-    one(kind, 0.0)
+    Numbers {
+        b,
+        c,
+        d,
+        ..one(kind, a)
+    }
 }
 
 // The kind and the numbers of a component.
@@ -97,14 +128,6 @@ impl From<Component> for ComponentWords {
     ghost from_gives = { Worded };
 
     fn from(component: Component) -> ComponentWords {
-        let n = Numbers::from(component);
-        ComponentWords {
-            kind: n.kind,
-            a: bits(n.a),
-            b: bits(n.b),
-            c: bits(n.c),
-            d: bits(n.d),
-            e: bits(n.e),
-        }
+        Numbers::from(component).map(bits)
     }
 }

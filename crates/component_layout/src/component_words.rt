@@ -1,14 +1,31 @@
 // A component, and what a parameter is set to, from a kind and words.
-ghost use Rattle.std.specs.Prelude.{◌≡◌};
+ghost use Rattle.std.specs.Prelude.{◌≡◌, ◌+◌};
+ghost use Rattle.component_layout.specs.Places.{words_at};
 ghost use Rattle.component_layout.specs.Components.{component_of, component_from, data_from, component_read, data_read};
 
 use crate::component_numbers::{ComponentWords, Numbers};
 use component::model_component::Component;
 use component::parameter::Data;
+use component::range::Range;
 use float::bits::float_of;
 use geometry::vec3f::Vec3;
+use layout::words::{read_word, word_past};
 use shapes::sphere::Sphere;
 use shapes::torus::Torus;
+
+// The six words of a component at a place of some bytes.
+pub fn words_at(s: &[u8], at: usize) -> ComponentWords
+    ensures { result ≡ words_at s.now at }
+{
+    ComponentWords {
+        kind: read_word(s, at),
+        a: word_past(s, at, 8),
+        b: word_past(s, at, 16),
+        c: word_past(s, at, 24),
+        d: word_past(s, at, 32),
+        e: word_past(s, at, 40),
+    }
+}
 
 // The component of a kind with these numbers.
 #[tactic(auto, unfolding(crate::specs::Components::component_of))]
@@ -25,12 +42,7 @@ pub fn component_of(n: Numbers) -> Option<Component>
         6 => Component::Divide,
         7 => Component::Lerp(n.a),
         8 => Component::VariableLerp,
-        9 => Component::Remap {
-            from_min: n.a,
-            from_max: n.b,
-            to_min: n.c,
-            to_max: n.d,
-        },
+        9 => Component::remap(Range::new(n.a, n.b), Range::new(n.c, n.d)),
         10 => Component::BooleanUnion,
         11 => Component::BooleanIntersection,
         12 => Component::BooleanDifference,
@@ -45,14 +57,7 @@ pub fn component_of(n: Numbers) -> Option<Component>
 pub fn component_from(w: ComponentWords) -> Option<Component>
     ensures { component_read result ≡ component_from w.kind w.a w.b w.c w.d w.e }
 {
-    component_of(Numbers {
-        kind: w.kind,
-        a: float_of(w.a),
-        b: float_of(w.b),
-        c: float_of(w.c),
-        d: float_of(w.d),
-        e: float_of(w.e),
-    })
+    component_of(w.map(float_of))
 }
 
 // What a parameter is set to: a kind and three words, of which those that the kind does not use are not looked at.

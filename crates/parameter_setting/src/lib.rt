@@ -1,54 +1,52 @@
 // A parameter set.
-#![tactic(auto, using(tag::specs::Comparing::pointwise_is), unfolding(component::specs::Parameter::set_value, component::specs::Parameter::set_vec3, component::specs::Parameter::set_parameter, component::specs::Parameter::name_centre, component::specs::Parameter::name_radius, component::specs::Parameter::name_thickness, component::specs::Parameter::name_factor, component::specs::Parameter::name_from_min, component::specs::Parameter::name_from_max, component::specs::Parameter::name_to_min, component::specs::Parameter::name_to_max, component::specs::Parameter::name_distance))]
+#![tactic(auto, unfolding(component::specs::Parameter::set_value, component::specs::Parameter::set_vec3, component::specs::Parameter::set_parameter, component::specs::Parameter::name_centre, component::specs::Parameter::name_radius, component::specs::Parameter::name_thickness, component::specs::Parameter::name_factor, component::specs::Parameter::name_from_min, component::specs::Parameter::name_from_max, component::specs::Parameter::name_to_min, component::specs::Parameter::name_to_max, component::specs::Parameter::name_distance))]
 
-ghost use Rattle.std.specs.Prelude.{◌≡◌, cond};
+ghost use Rattle.std.specs.Prelude.{◌≡◌, cond, Some, None};
 ghost use Rattle.tag.specs.Tags.{is};
 ghost use Rattle.component.specs.Parameter.{set_value, set_vec3, set_parameter};
 
 use component::model_component::Component;
-use component::parameter::{self, Data, ParameterError};
+use component::parameter::{self, Data, ParameterError, under};
 use component::range::Range;
 use geometry::vec3f::Vec3;
 use shapes::sphere::Sphere;
 use shapes::torus::Torus;
 
 // The change, where the name is the one wanted.
+// Kept: (here and below) no `match` with the names as patterns, for the reason in crate parameter_reading.
 fn set_named(name: &[u8], wanted: &[u8], changed: Component) -> Result<Component, ParameterError>
     ensures { result ≡ cond (is name.now wanted.now) (Ok changed) (Err ParameterError.DoesNotFit) }
 {
-    if name != wanted {
-        return Err(ParameterError::DoesNotFit);
-    }
-    Ok(changed)
+    under(name, wanted, changed).ok_or(ParameterError::DoesNotFit)
 }
 
-// Kept: tests of the name one by one, since a `match` on byte strings leaves a goal for each byte, and their proof didn't close.
 fn set_torus(torus: Torus, name: &[u8], v: f64) -> Result<Component, ParameterError>
     ensures { result ≡ set_value (Component.Torus torus) name.now v }
 {
-    if name == b"Radius".as_slice() {
-        Ok(Component::Torus(Torus { r: v, ..torus }))
-    } else if name == b"Thickness".as_slice() {
-        Ok(Component::Torus(Torus { t: v, ..torus }))
-    } else {
-        Err(ParameterError::DoesNotFit)
-    }
+    under(name, b"Radius", Component::Torus(Torus { r: v, ..torus }))
+        .or(under(
+            name,
+            b"Thickness",
+            Component::Torus(Torus { t: v, ..torus }),
+        ))
+        .ok_or(ParameterError::DoesNotFit)
+}
+
+// The range with one end set, where the name is that end's.
+fn with_end(range: Range, name: &[u8], min: &[u8], max: &[u8], v: f64) -> Option<Range>
+    ensures { result ≡ cond (is name.now min.now) (Some (record { min = v; max = range.max })) (cond (is name.now max.now) (Some (record { min = range.min; max = v })) None) }
+{
+    under(name, min, Range::new(v, range.max)).or(under(name, max, Range::new(range.min, v)))
 }
 
 fn set_remap(from: Range, to: Range, name: &[u8], v: f64) -> Result<Component, ParameterError>
     ensures { result ≡ set_value (Component.Remap from.min from.max to.min to.max) name.now v }
 {
-    if name == b"FromMin".as_slice() {
-        Ok(Component::remap(Range::new(v, from.max).with_ends_apart()?, to))
-    } else if name == b"FromMax".as_slice() {
-        Ok(Component::remap(Range::new(from.min, v).with_ends_apart()?, to))
-    } else if name == b"ToMin".as_slice() {
-        Ok(Component::remap(from, Range::new(v, to.max).with_ends_apart()?))
-    } else if name == b"ToMax".as_slice() {
-        Ok(Component::remap(from, Range::new(to.min, v).with_ends_apart()?))
-    } else {
-        Err(ParameterError::DoesNotFit)
+    if let Some(changed) = with_end(from, name, b"FromMin", b"FromMax", v) {
+        return Ok(Component::remap(changed.with_ends_apart()?, to));
     }
+    let changed = with_end(to, name, b"ToMin", b"ToMax", v).ok_or(ParameterError::DoesNotFit)?;
+    Ok(Component::remap(from, changed.with_ends_apart()?))
 }
 
 // A Value under a name. A constant takes any name.

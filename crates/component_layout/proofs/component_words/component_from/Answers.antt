@@ -5,4 +5,4 @@ use Rattle.component_layout.proofs.component_words.component_from.Goals as goal
 pub returns : goal.returns
 unfolding component_from
 returns c =
-    rw (← c.float_of.ensures, ← c.float_of-2.ensures, ← c.float_of-3.ensures, ← c.float_of-4.ensures, ← c.float_of-5.ensures) c.component_of.ensures
+    rw (← c.map.ensures.kind, ← c.map.ensures.a, ← c.map.ensures.b, ← c.map.ensures.c, ← c.map.ensures.d, ← c.map.ensures.e) c.component_of.ensures

@@ -4,4 +4,5 @@ use Rattle.component_layout.proofs.component_numbers.ComponentWordsFromComponent
 
 pub returns : goal.returns
 returns c =
-    worded c.args.component c.from-n.ensures c.bits.ensures c.bits-2.ensures c.bits-3.ensures c.bits-4.ensures c.bits-5.ensures
+    let m = c.map.ensures in
+    rw m.kind (worded c.args.component c.from.ensures m.a m.b m.c m.d m.e)
