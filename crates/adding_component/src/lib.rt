@@ -1,7 +1,7 @@
 // Adding a component of any kind: `add_component`.
 #![tactic(auto)]
 
-ghost use Rattle.std.specs.Prelude.{◌≡◌, length};
+ghost use Rattle.std.specs.Prelude.{◌≡◌};
 ghost use Rattle.tag.specs.View.{bytes_of};
 ghost use Rattle.model.specs.Edit.{add_component};
 ghost use Rattle.model.specs.View.{components_of};
@@ -35,9 +35,9 @@ fn free_tag(m: &Model, tag: Tag) -> Option<Tag>
     None
 }
 
-// The component added in the model itself, which a refusal leaves as it was. That the tables have their sizes is known of a model by value.
-fn add(m: &mut Model, tag: &[u8], c: Component) -> Answer
-    ensures { length m.old.components ≡ 64 → length m.old.lists ≡ 128 → Meets (add_component tag.now c) m.old (record { answer = result; model = m.new }) }
+// The default becomes the tag asked for, also where a numbered one is made.
+pub fn add_component_to(m: &mut Model, tag: &[u8], c: Component) -> Answer
+    ensures { Meets (add_component tag.now c) m.old (record { answer = result; model = m.new }) }
 {
     validity::check(m)?;
     let asked = Tag::try_from(tag)?;
@@ -48,11 +48,10 @@ fn add(m: &mut Model, tag: &[u8], c: Component) -> Answer
     add_listed(m, tag, c, unassigned_row(tag, c.input_count()), asked)
 }
 
-// The default becomes the tag asked for, also where a numbered one is made.
 pub fn add_component(m: Model, tag: &[u8], c: Component) -> Edited
     ensures { Meets (add_component tag.now c) m result }
 {
     let mut model = m;
-    let answer = add(&mut model, tag, c);
+    let answer = add_component_to(&mut model, tag, c);
     Edited { answer, model }
 }

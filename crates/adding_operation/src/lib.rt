@@ -1,7 +1,7 @@
 // Adding an operation: `add_operation`; and a component with its list, which `add_component` ends with too.
 #![tactic(auto)]
 
-ghost use Rattle.std.specs.Prelude.{◌≡◌, ◌<◌, false, ℕ, Some, length};
+ghost use Rattle.std.specs.Prelude.{◌≡◌, ◌<◌, false, ℕ, Some};
 ghost use Rattle.model.specs.Edit.{add_operation};
 ghost use Rattle.edit.specs.Meets.{Meets};
 ghost use Rattle.input_rows.specs.Inputs.{inputs_of};
@@ -10,7 +10,7 @@ ghost use Rattle.adding_operation.specs.Listed.{list_put, no_room, Listed};
 use adding::add_more;
 use component::model_component::Component;
 use edit::Edited;
-use held::find::{find_component, find_list};
+use held::find::{check_free, find_list};
 use input_rows::{Inputs, inputs_fit, operation_row, too_long};
 use model::implicit_model::{InputList, Model};
 use model::model_error::{Answer, ModelError, Refusal};
@@ -20,7 +20,7 @@ use tag::Tag;
 fn no_room(m: &Model, found: Option<usize>) -> bool
     ensures { result ≡ no_room m.now found }
 {
-    found.is_none() && 128 <= m.list_count
+    found.is_none() && m.lists.len() <= m.list_count
 }
 
 // The list over the one found, or one list more.
@@ -44,7 +44,7 @@ fn put_list(m: &mut Model, list: InputList, found: Option<usize>)
 pub fn add_listed(m: &mut Model, tag: Tag, c: Component, list: InputList, default: Tag) -> Answer
     ensures { Listed m.old tag c list default (record { answer = result; model = m.new }) }
 {
-    if 64 <= m.component_count {
+    if m.components.len() <= m.component_count {
         return Err(Refusal::plain(ModelError::ComponentsFull));
     }
     let found = find_list(m, tag);
@@ -55,9 +55,9 @@ pub fn add_listed(m: &mut Model, tag: Tag, c: Component, list: InputList, defaul
     add_more(m, tag, c, default)
 }
 
-// The operation added in the model itself, which a refusal leaves as it was. That the tables have their sizes is known of a model by value.
-fn add(m: &mut Model, tag: &[u8], c: Component, inputs: Option<Inputs>) -> Answer
-    ensures { length m.old.components ≡ 64 → length m.old.lists ≡ 128 → Meets (add_operation tag.now c (inputs_of inputs.entry)) m.old (record { answer = result; model = m.new }) }
+// Of the tags that are given the first three at most are looked at.
+pub fn add_operation_to(m: &mut Model, tag: &[u8], c: Component, inputs: Option<Inputs>) -> Answer
+    ensures { Meets (add_operation tag.now c (inputs_of inputs.entry)) m.old (record { answer = result; model = m.new }) }
 {
     validity::check(m)?;
     let tag = Tag::try_from(tag)?;
@@ -67,9 +67,7 @@ fn add(m: &mut Model, tag: &[u8], c: Component, inputs: Option<Inputs>) -> Answe
     if !c.is_operation() {
         return Err(Refusal::of(ModelError::ParameterDoesNotFit, tag));
     }
-    if find_component(m, tag).is_some() {
-        return Err(Refusal::of(ModelError::DuplicateTag, tag));
-    }
+    check_free(m, tag)?;
     let k = c.input_count();
     if !inputs_fit(inputs, k) {
         return Err(Refusal::of(ModelError::IncorrectInputCount, tag));
@@ -77,11 +75,10 @@ fn add(m: &mut Model, tag: &[u8], c: Component, inputs: Option<Inputs>) -> Answe
     add_listed(m, tag, c, operation_row(tag, inputs, k), tag)
 }
 
-// Of the tags that are given the first three at most are looked at.
 pub fn add_operation(m: Model, tag: &[u8], c: Component, inputs: Option<Inputs>) -> Edited
     ensures { Meets (add_operation tag.now c (inputs_of inputs.entry)) m result }
 {
     let mut model = m;
-    let answer = add(&mut model, tag, c, inputs);
+    let answer = add_operation_to(&mut model, tag, c, inputs);
     Edited { answer, model }
 }

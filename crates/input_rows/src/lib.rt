@@ -12,6 +12,7 @@ use model::implicit_model::InputList;
 use tag::{Tag, tag_of};
 
 // So many tags, of which the first three at most are looked at; those that stand beyond the count are not.
+// Kept: three fields and no array: specs/ names the tags one by one, and would read an array's by `get_or`, with a tag for where there is none.
 #[derive(Clone, Copy)]
 pub struct Inputs<'a> {
     pub count: usize,
@@ -52,20 +53,14 @@ impl<'a> Inputs<'a> {
 pub fn too_long(inputs: Option<Inputs>) -> bool
     ensures { result ≡ any overlong (looked_at (inputs_of inputs.entry)) }
 {
-    match inputs {
-        Some(given) => given.too_long(),
-        None => false,
-    }
+    inputs.is_some_and(Inputs::too_long)
 }
 
 // Whether as many inputs as the operation takes are given, or none.
 pub fn inputs_fit(inputs: Option<Inputs>, k: usize) -> bool
     ensures { result ≡ fitting inputs.entry k }
 {
-    match inputs {
-        Some(given) => given.count == k,
-        None => true,
-    }
+    inputs.is_none_or(|given| given.count == k)
 }
 
 // A list of k unassigned places, three at most.

@@ -9,37 +9,35 @@ use held::find::find_list;
 use model::implicit_model::{InputList, Model};
 use tag::Tag;
 
-// The model without the list at a position: the last one takes its place. As it was, where it counts more lists than there is room for.
-fn without_list(m: Model, i: usize) -> Model
-    requires { ListAt m i }
-    ensures { m.list_count ≤ 128 → result ≡ without_list m i }
+// The list at a position is taken off: the last one takes its place. None is, where the model counts more lists than there is room for.
+// Kept: one function for this and for removing's `take_entry` is no plainer, as is said there.
+fn take_list(m: &mut Model, i: usize)
+    requires { ListAt m.old i }
+    ensures { m.old.list_count ≤ 128 → m.new ≡ without_list m.old i }
 {
     if 128 < m.list_count {
-        return m;
+        return;
     }
     let last = m.list_count - 1;
-    let mut n = m;
-    n.lists[i] = m.lists[last];
-    n.list_count = last;
-    n
+    m.lists[i] = m.lists[last];
+    m.list_count = last;
 }
 
-// The model with the list of one tag moved to another, over the leftover list that this one has. Without a list of the first nothing moves, and the leftover one is acquired.
-pub fn list_moved(m: Model, t: Tag, u: Tag) -> Model
-    ensures { Movable m t u → ListMoved m (bytes_of t) (bytes_of u) result }
+// The list of one tag is moved to another, over the leftover list that this one has. Without a list of the first nothing moves, and the leftover one is acquired.
+pub fn move_list(m: &mut Model, t: Tag, u: Tag)
+    ensures { Movable m.old t u → ListMoved m.old (bytes_of t) (bytes_of u) m.new }
 {
-    let Some(i) = find_list(&m, t) else {
-        return m;
+    let Some(i) = find_list(m, t) else {
+        return;
     };
     let list = InputList {
         tag: u,
         ..m.lists[i]
     };
-    let mut n = m;
-    let Some(j) = find_list(&m, u) else {
-        n.lists[i] = list;
-        return n;
+    let Some(j) = find_list(m, u) else {
+        m.lists[i] = list;
+        return;
     };
-    n.lists[j] = list;
-    without_list(n, i)
+    m.lists[j] = list;
+    take_list(m, i);
 }

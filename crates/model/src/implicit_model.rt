@@ -29,7 +29,7 @@ impl Default for ComponentEntry {
     }
 }
 
-// Kept: an array with a count beside it, since a count past the size is legal input, which 7 refuses, and document 01 fixes the table.
+// Kept: an array with a count beside it, since memory is fixed, document 01 gives a list three places, and a larger count is legal input, which 7 refuses.
 #[derive(Clone, Copy, Default)]
 pub struct InputList {
     pub tag: Tag,
@@ -37,7 +37,7 @@ pub struct InputList {
     pub places: [Place; 3],
 }
 
-// Kept: each table is an array with a count beside it, for the same reason.
+// Kept: arrays with counts, since document 01 fixes both tables and a larger count is legal input, which 7 refuses.
 #[derive(Clone, Copy)]
 pub struct Model {
     pub components: [ComponentEntry; 64],

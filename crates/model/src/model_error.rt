@@ -45,6 +45,7 @@ impl From<ParameterError> for ModelError {
 }
 
 // A refusal, with the tag and the index that it carries.
+// Kept: document 01 gives each refusal a tag and an index, empty and 0 where it names none; cases with fields would write both out again at the report.
 #[derive(Clone, Copy)]
 pub struct Refusal {
     pub error: ModelError,

@@ -1,7 +1,8 @@
 // One place of an input list replaced: what wiring and unwiring end in.
 #![tactic(auto)]
 
-ghost use Rattle.std.specs.Prelude.{◌≡◌};
+ghost use Rattle.std.specs.Prelude.{◌≡◌, get_or};
+ghost use Rattle.model.specs.declared.implicit_model.InputList.{InputList};
 ghost use Rattle.model.specs.Edit.{done};
 ghost use Rattle.edit.specs.Ends.{Ends};
 ghost use Rattle.edit.specs.Rows.{with_list};
@@ -11,6 +12,7 @@ use model::implicit_model::{InputList, Model, Place};
 use model::model_error::Answer;
 
 // The list with one place replaced; as it was, where there is no such place.
+// Kept: tried within `place`, and the goal `returns-else-row-lists`, where the place is past the end, stays open: through a reference to a model nothing says that a row has 3 places, and a slice of a row of a slice is what the borrow checker does not cover.
 fn placed(l: InputList, index: usize, place: Place) -> InputList
     ensures { result ≡ placed_at l index place }
 {
@@ -21,13 +23,13 @@ fn placed(l: InputList, index: usize, place: Place) -> InputList
     list
 }
 
-// The edit is done: the list at a row is this one, with one place replaced. Where there is no such row, the model is as it was.
-pub fn place(m: &mut Model, row: usize, l: InputList, index: usize, to: Place) -> Answer
-    ensures { Ends done (with_list m.old row (placed_at l index to)) (record { answer = result; model = m.new }) }
+// The edit is done: one place of the list at a row is replaced. Where there is no such row, the model is as it was.
+pub fn place(m: &mut Model, row: usize, index: usize, to: Place) -> Answer
+    ensures { (d : InputList) → Ends done (with_list m.old row (placed_at (get_or m.old.lists row d) index to)) (record { answer = result; model = m.new }) }
 {
     let lists: &mut [InputList] = &mut m.lists;
     if row < lists.len() {
-        lists[row] = placed(l, index, to);
+        lists[row] = placed(lists[row], index, to);
     }
     Ok(None)
 }

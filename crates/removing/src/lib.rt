@@ -9,31 +9,31 @@ ghost use Rattle.edit.specs.Meets.{Meets};
 ghost use Rattle.removing.specs.Removing.{HeldAt, without_entry};
 
 use edit::Edited;
-use held::find::find_component;
+use held::find::held_component;
 use model::implicit_model::Model;
-use model::model_error::{Answer, ModelError, Refusal};
+use model::model_error::Answer;
 use tag::Tag;
 
-// The model without the component at a position: the last one takes its place, so that its room is used again.
-fn without_entry(m: Model, i: usize) -> Model
-    requires { HeldAt m i }
-    ensures { result ≡ without_entry m i }
+// The component at a position is taken off: the last one takes its place, so that its room is used again.
+// Kept: crate list_moving does the same to a table of lists. One function for both would be public, and so ask nothing of its callers: it would test the position and the count that are known here, and leave the count to be written beside it, which is no plainer.
+fn take_entry(m: &mut Model, i: usize)
+    requires { HeldAt m.old i }
+    ensures { m.new ≡ without_entry m.old i }
 {
     let last = m.component_count - 1;
-    let mut n = m;
-    n.components[i] = m.components[last];
-    n.component_count = last;
-    n
+    m.components[i] = m.components[last];
+    m.component_count = last;
 }
 
-// The component removed in the model itself, which a refusal leaves as it was. The tag's own list stays, as a leftover one.
-fn remove(m: &mut Model, tag: &[u8]) -> Answer
+// The tag's own list stays, as a leftover one.
+pub fn remove_component_from(m: &mut Model, tag: &[u8]) -> Answer
     ensures { Meets (remove_component tag.now) m.old (record { answer = result; model = m.new }) }
 {
     validity::check(m)?;
     let tag = Tag::try_from(tag)?;
-    let i = find_component(m, tag).ok_or(Refusal::of(ModelError::MissingTag, tag))?;
-    *m = swapping::places_swapped(without_entry(*m, i), tag, None);
+    let i = held_component(m, tag)?;
+    take_entry(m, i);
+    swapping::swap_places(m, tag, None);
     Ok(None)
 }
 
@@ -41,6 +41,6 @@ pub fn remove_component(m: Model, tag: &[u8]) -> Edited
     ensures { Meets (remove_component tag.now) m result }
 {
     let mut model = m;
-    let answer = remove(&mut model, tag);
+    let answer = remove_component_from(&mut model, tag);
     Edited { answer, model }
 }

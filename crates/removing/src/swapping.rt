@@ -15,27 +15,24 @@ pub fn place_swapped(p: Place, t: Tag, by: Place) -> Place
     }
 }
 
-// A list, with each place replaced that names the tag.
-pub fn list_swapped(l: InputList, t: Tag, by: Place) -> InputList
-    ensures { ListSwapped (bytes_of t) by l result }
+// Each place of a list that names the tag is replaced.
+// Kept: tried as `for place in &mut list.places[..places]`, and the goal `returns` stays open: that the changed slice, with the places behind it put back, has the list's live rows changed. The loop over the lists below keeps this one's form, for the law that both share.
+pub fn swap_list(list: &mut InputList, t: Tag, by: Place)
+    ensures { ListSwapped (bytes_of t) by list.old list.new }
 {
-    let places = l.live_places().len();
-    let mut w = l;
+    let places = list.live_places().len();
     for i in 0..places {
-        w.places[i] = place_swapped(w.places[i], t, by);
+        list.places[i] = place_swapped(list.places[i], t, by);
     }
-    w
 }
 
-// A model, with each place of its lists and the default replaced that name the tag.
-pub fn places_swapped(m: Model, t: Tag, by: Place) -> Model
-    ensures { PlacesSwapped (bytes_of t) by m result }
+// Each place of a model's lists that names the tag is replaced, and so is its default.
+pub fn swap_places(m: &mut Model, t: Tag, by: Place)
+    ensures { PlacesSwapped (bytes_of t) by m.old m.new }
 {
     let lists = m.live_lists().len();
-    let mut w = m;
-    w.default = place_swapped(m.default, t, by);
+    m.default = place_swapped(m.default, t, by);
     for i in 0..lists {
-        w.lists[i] = list_swapped(w.lists[i], t, by);
+        swap_list(&mut m.lists[i], t, by);
     }
-    w
 }

@@ -12,14 +12,10 @@ use model::implicit_model::{ComponentEntry, Model};
 fn entry_sound(m: &Model, e: &ComponentEntry) -> bool
     ensures { result ≡ entry_sound (lists_of m.now) e.now }
 {
-    if !e.tag.fits() {
-        return false;
-    }
     let takes = e.component.input_count();
-    if takes == 0 {
-        return true;
-    }
-    get_inputs(m, e.tag).is_some_and(|list| list.live_places().len() == takes)
+    e.tag.fits()
+        && (takes == 0
+            || get_inputs(m, e.tag).is_some_and(|list| list.live_places().len() == takes))
 }
 
 // Whether every component is sound.

@@ -1,5 +1,5 @@
--- What the walk's code holds: the rows of lists that wait in line, and a mark for each row that has been in it. Definitions only.
-use Rattle.std.specs.Prelude.{◌≡◌, Bool, true, false, List, [], ◌∷◌, ℕ, suc, ◌+◌, ◌<◌, length, get_or, set, replicate, Result, MatchResult}
+-- What the walk's code holds: the rows of lists that have been in line, in their sequence. Definitions only.
+use Rattle.std.specs.Prelude.{◌≡◌, true, List, [], ◌∷◌, ◌++◌, ℕ, ◌<◌, length, get_or, Result, MatchResult}
 use Rattle.std.proofs.Math.Option.{none}
 use Rattle.tag.specs.Tags.{Tag}
 use Rattle.model.specs.declared.implicit_model.Model.{Model as Record}
@@ -7,7 +7,7 @@ use Rattle.model.specs.Table.{Table, find}
 use Rattle.model.specs.Model.{Place}
 use Rattle.model.specs.View.{lists_of, view, passes}
 use Rattle.model.specs.Walk.{Walked, clear, met, gapped, walk_from}
-use Rattle.walking.specs.declared.Line.{Line}
+use Rattle.nodes.specs.Nodes.{◌∈◌}
 use Rattle.walking.specs.declared.Blocked.{Blocked}
 use Rattle.walking.specs.declared.Blocked.TheVariants.{Target, Gap}
 
@@ -16,36 +16,11 @@ pub record Row {A : Type 0} (table : Table A) (r : ℕ) (t : Tag) (a : A) : Type
   pub within : r < length table
   pub entry : (d : Tag × A) → get_or table r d ≡ (t, a)
 
--- how many rows are marked
-unfoldable pub marks : List Bool → ℕ
-marks [] = 0
-marks (true ∷ bs) = suc (marks bs)
-marks (false ∷ bs) = marks bs
-
--- as many rows are marked as have been in the line
-pub record Counted (line : Line) : Type 0 where
-  pub rows : length line.rows ≡ 128
-  pub seen : length line.seen ≡ 128
-  pub tail : marks line.seen ≡ line.tail
-
--- and every row in the line is below the table's size
-pub record Sound (line : Line) : Type 0 where
-  pub counted : Counted line
-  pub below : (k : ℕ) → get_or line.rows k 0 < 128
-
--- one row in the line
-abbrev pub started : ℕ → Line
-started from = record { rows = replicate 128 from; seen = set (replicate 128 false) from true; tail = 1 }
-
--- row q joins the line
-abbrev pub pushed : Line → ℕ → Line
-pushed line q = record { rows = set line.rows line.tail q; seen = set line.seen q true; tail = line.tail + 1 }
-
 -- a tag joins the line if it has a list that has not been in it
-pub data Joined (lists : Table (List Place)) (t : Tag) (line r : Line) : Type 0 where
+pub data Joined (lists : Table (List Place)) (t : Tag) (line r : List ℕ) : Type 0 where
   absent : find t lists ≡ none → r ≡ line → Joined lists t line r
-  again : {q : ℕ} {l : List Place} → Row lists q t l → get_or line.seen q false ≡ true → r ≡ line → Joined lists t line r
-  joins : {q : ℕ} {l : List Place} → Row lists q t l → get_or line.seen q false ≡ false → r ≡ pushed line q → Joined lists t line r
+  again : {q : ℕ} {l : List Place} → Row lists q t l → q ∈ line → r ≡ line → Joined lists t line r
+  joins : {q : ℕ} {l : List Place} → Row lists q t l → ¬ (q ∈ line) → r ≡ line ++ (q ∷ []) → Joined lists t line r
 
 -- a model that 7 lets pass, and two of its lists
 pub record Walkable (m : Record) (target from : ℕ) : Type 0 where

@@ -7,7 +7,7 @@ ghost use Rattle.edit.specs.Meets.{Meets};
 ghost use Rattle.wiring.specs.Wiring.{Held};
 
 use edit::Edited;
-use held::find::{find_component, find_list};
+use held::find::{held_component, held_list};
 use model::implicit_model::Model;
 use model::model_error::{Answer, ModelError, Refusal};
 use tag::Tag;
@@ -18,31 +18,29 @@ fn wire(m: &mut Model, target: Tag, source: Tag, index: usize) -> Answer
     requires { Held m.old target source index }
     ensures { Meets (add_input (bytes_of target) (bytes_of source) index) m.old (record { answer = result; model = m.new }) }
 {
-    let row = find_list(m, target).ok_or(Refusal::of(ModelError::MissingTag, target))?;
-    let list = m.lists[row];
-    if list.live_places().len() <= index {
+    let row = held_list(m, target)?;
+    if m.lists[row].live_places().len() <= index {
         return Err(Refusal::at(ModelError::InputIndexOutOfRange, target, index));
     }
     match walk_from(m, row, source) {
-        Ok(()) => placing::place(m, row, list, index, Some(source)),
+        Ok(()) => placing::place(m, row, index, Some(source)),
         Err(Blocked::Target) => Err(Refusal::of(ModelError::CyclicDependency, target)),
-        Err(Blocked::Gap(row, k)) => Err(Refusal::at(
+        Err(Blocked::Gap { row: gap, place }) => Err(Refusal::at(
             ModelError::MissingInput,
-            m.lists[row].tag,
-            k,
+            m.lists[gap].tag,
+            place,
         )),
     }
 }
 
-// The input added in the model itself, which a refusal leaves as it was.
-fn add(m: &mut Model, target: &[u8], source: &[u8], index: usize) -> Answer
+pub fn add_input_to(m: &mut Model, target: &[u8], source: &[u8], index: usize) -> Answer
     ensures { Meets (add_input target.now source.now index) m.old (record { answer = result; model = m.new }) }
 {
     validity::check(m)?;
     let target = Tag::try_from(target)?;
     let source = Tag::try_from(source)?;
-    find_component(m, target).ok_or(Refusal::of(ModelError::MissingTag, target))?;
-    find_component(m, source).ok_or(Refusal::of(ModelError::MissingTag, source))?;
+    held_component(m, target)?;
+    held_component(m, source)?;
     wire(m, target, source, index)
 }
 
@@ -50,6 +48,6 @@ pub fn add_input(m: Model, target: &[u8], source: &[u8], index: usize) -> Edited
     ensures { Meets (add_input target.now source.now index) m result }
 {
     let mut model = m;
-    let answer = add(&mut model, target, source, index);
+    let answer = add_input_to(&mut model, target, source, index);
     Edited { answer, model }
 }

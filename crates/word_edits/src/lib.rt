@@ -1,10 +1,8 @@
-// Edits whose component, inputs or data come in words. Words of no kind are an edit that is refused with 4.
+// Edits whose component or data come in words. Words of no kind make an edit that is refused with 4.
 #![tactic(auto)]
 
 ghost use Rattle.std.specs.Prelude.{◌≡◌};
-ghost use Rattle.model.specs.Edit.{add_operation};
 ghost use Rattle.edit.specs.Meets.{Meets};
-ghost use Rattle.edit_rows.specs.EditRows.{given};
 ghost use Rattle.word_edits.specs.Edits.{function_of, component_edit, operation_of, data_of};
 
 use component::model_component::Component;
@@ -12,10 +10,10 @@ use component::parameter::Data;
 use component_layout::component_numbers::ComponentWords;
 use component_layout::component_words::{DataWords, component_from, data_from};
 use edit::Edited;
-use edit_rows::inputs_word::inputs_given;
 use model::implicit_model::Model;
 
-// A function, or a component that is none.
+// The component of the words: where they are of no kind one that is no function, so that `add_function` refuses it with 4.
+// Kept: (here and below) a component stands for words of no kind. 4 has its place among the refusals of the edit itself, behind 7 and 1; with an Option each of these edits would need a second public form, which takes None, and that is no plainer.
 #[tactic(auto, unfolding(crate::specs::Edits::function_of))]
 pub fn function_of(w: ComponentWords) -> Component
     ensures { result ≡ function_of w }
@@ -23,7 +21,7 @@ pub fn function_of(w: ComponentWords) -> Component
     component_from(w).unwrap_or(Component::Multiply)
 }
 
-// An operation, or a component that is none.
+// The component of the words: where they are of no kind one that is no operation, so that `add_operation` refuses it with 4.
 #[tactic(auto, unfolding(crate::specs::Edits::operation_of))]
 pub fn operation_of(w: ComponentWords) -> Component
     ensures { result ≡ operation_of w }
@@ -31,7 +29,7 @@ pub fn operation_of(w: ComponentWords) -> Component
     component_from(w).unwrap_or(Component::Constant(0.0))
 }
 
-// The data, or a boolean, which no parameter takes.
+// The data of the words: where they are of no kind a boolean, which no parameter takes, so that `set_parameter` refuses it with 4.
 #[tactic(auto, unfolding(crate::specs::Edits::data_of))]
 pub fn data_of(w: DataWords) -> Data
     ensures { result ≡ data_of w }
@@ -39,7 +37,7 @@ pub fn data_of(w: DataWords) -> Data
     data_from(w).unwrap_or(Data::Boolean(false))
 }
 
-// `add_component` takes every kind, so that no kind is refused as a function.
+// `add_component`. It takes a component of any kind, so none could stand for words of no kind: they go to `add_function`, as a component that is no function.
 #[tactic(auto, unfolding(crate::specs::Edits::component_edit))]
 pub fn add_component_of(m: Model, tag: &[u8], w: ComponentWords) -> Edited
     ensures { Meets (component_edit tag.now w) m result }
@@ -48,19 +46,4 @@ pub fn add_component_of(m: Model, tag: &[u8], w: ComponentWords) -> Edited
         Some(found) => adding_component::add_component(m, tag, found),
         None => adding::add_function(m, tag, Component::Multiply),
     }
-}
-
-// `add_operation` with the inputs of a word: 0 is none given, else their count and 1.
-pub fn add_operation_with(
-    m: Model,
-    tag: &[u8],
-    op: Component,
-    count: u64,
-    first: &[u8],
-    second: &[u8],
-    third: &[u8],
-) -> Edited
-    ensures { Meets (add_operation tag.now op (given count first.now second.now third.now)) m result }
-{
-    adding_operation::add_operation(m, tag, op, inputs_given(count, first, second, third))
 }

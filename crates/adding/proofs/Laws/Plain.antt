@@ -1,8 +1,9 @@
 -- Each way out of adding a component without inputs. Assumes nothing.
 use mathlib.Core.Path.{◌≡◌, refl, sym, ap, subst}
-use mathlib.Core.Bool.{Bool, true, false, not}
+use mathlib.Core.Bool.{Bool, true, false, not, cond}
+use native.Mathlib.Omega.{arith}
+use Rattle.std.specs.Bool.{then_some}
 use mathlib.Core.List.{[]}
-use Prim.Native.Nat.{ℕ}
 use lib.ListN.{length}
 use lib.Ieee.{Float}
 use Rattle.tag.specs.declared.Tag.{Tag as Label}
@@ -12,19 +13,36 @@ use Rattle.component.specs.Kind.{is_function}
 use Rattle.component.specs.declared.model_component.Component.{Component}
 use Rattle.component.specs.declared.model_component.Component.TheVariants.{Constant}
 use Rattle.model.specs.declared.implicit_model.Model.{Model as Record}
-use Rattle.std.specs.Prelude.{Option, Some, None}
+use Rattle.std.specs.Prelude.{Some, None}
 use Rattle.model.specs.Table.{held}
 use Rattle.model.specs.Model.{Model}
 use Rattle.model.specs.Edit.{add_constant, add_function, Outcome, edit, add_plain}
 use Rattle.model.specs.View.{components_of, view, passes}
-use Rattle.held.specs.Search.{Sought}
+use Rattle.model.proofs.Laws.Table.{held-false}
 use Rattle.held.proofs.Laws.Standing.{standing}
 use Rattle.edit.specs.declared.Edited.{Edited}
 use Rattle.edit.specs.Ends.{Refused}
 use Rattle.edit.proofs.Laws.Step.{Step, skip, stop, meets_on, meets_7}
-use Rattle.edit.proofs.Laws.Tests.{carrying, taken, free, missing, sought_by}
+use Rattle.edit.proofs.Laws.Tests.{carrying, held_as}
 use Rattle.adding.specs.Grown.{Grew, Plainly}
 use Rattle.adding.proofs.Laws.Grown.{grew}
+
+-- ---- a component, where its kind is the one asked for
+
+module _ (c : Component) where
+  pub other_kind : (ok : Bool) → cond ok (Some c) None ≡ None → ok ≡ false
+  other_kind true h = absurd (grind arith)
+  other_kind false h = refl
+
+  pub right_kind : {x : Component} (ok : Bool) → cond ok (Some c) None ≡ Some x → (ok ≡ true) × (x ≡ c)
+  right_kind {x} true h = let q : x ≡ c = cc in (refl, q)
+  right_kind false h = absurd (grind arith)
+
+pub chosen : (ok : Bool) (c : Component) → then_some ok c ≡ cond ok (Some c) None
+chosen true c = refl
+chosen false c = refl
+
+-- ---- the ways out
 
 module _ (m : Record) (t : Tag) (c : Component) (ok : Bool) (r : Edited) where
   pub plain_7 : passes m ≡ false → Refused m 7 [] 0 r → Plainly t c ok m r
@@ -43,17 +61,16 @@ module _ (m : Record) (t : Tag) (c : Component) (ok : Bool) (r : Edited) where
       unfolding add_plain
       plain_4 h z = on (skip (overlong t) 1 empty 0 st (stop (not ok) 4 t 0 _ (ap not h) (carrying lt z)))
 
-      module _ (fits : ok ≡ true) (f : Option ℕ) (p : Sought (components_of m) 64 (bytes_of u) f) where
-        pub plain_11 : {i : ℕ} → f ≡ Some i → Refused m 11 (bytes_of u) 0 r → Plainly t c ok m r
+      module _ (fits : ok ≡ true) where
+        pub plain_11 : held (bytes_of u) (components_of m) ≡ true → Refused m 11 (bytes_of u) 0 r → Plainly t c ok m r
         unfolding add_plain view
-        plain_11 e z =
-            on (skip (overlong t) 1 empty 0 st (skip (not ok) 4 t 0 (ap not fits) (stop (held t (components_of m)) 11 t 0 _ (taken (sought_by lt p) e) (carrying lt z))))
+        plain_11 h z = on (skip (overlong t) 1 empty 0 st (skip (not ok) 4 t 0 (ap not fits) (stop (held t (components_of m)) 11 t 0 _ (held_as _ lt h) (carrying lt z))))
 
-        pub plain_more : f ≡ None → length m.components ≡ 64 → Grew m u c u r → Plainly t c ok m r
+        pub plain_more : held (bytes_of u) (components_of m) ≡ false → length m.components ≡ 64 → {x : Component} → x ≡ c → Grew m u x u r → Plainly t c ok m r
         unfolding add_plain view
-        plain_more n size z =
-            on (skip (overlong t) 1 empty 0 st (skip (not ok) 4 t 0 (ap not fits) (skip (held t (components_of m)) 11 t 0 (free (sought_by lt p) n)
-            (grew m (standing m v) size lt lt c (missing (sought_by lt p) n) z))))
+        plain_more h size q z =
+            on (skip (overlong t) 1 empty 0 st (skip (not ok) 4 t 0 (ap not fits) (skip (held t (components_of m)) 11 t 0 (held_as _ lt h)
+            (grew m (standing m v) size lt lt c (held-false t (components_of m) (held_as _ lt h)) (subst (λ (y : Component). Grew m u y u r) q z)))))
 
 -- the two edits that are defined so
 pub constant_is : (t : Tag) (x : Float) (m : Model) → edit (add_constant t x) m ≡ add_plain m t (Constant x) true

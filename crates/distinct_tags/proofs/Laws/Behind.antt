@@ -1,12 +1,12 @@
 -- A row held against those behind it, in a table whose rows have tags by f. Assumes nothing.
-use mathlib.Core.Path.{◌≡◌, refl, ◌∙◌, ap}
-use mathlib.Core.Bool.{Bool, true, false, ◌||◌, cond}
+use mathlib.Core.Path.{◌≡◌, refl, sym, ◌∙◌, ap}
+use mathlib.Core.Bool.{Bool, true, false, not, ◌||◌, cond}
 use mathlib.Core.List.{List, [], ◌∷◌, map}
 use Prim.Native.Nat.{ℕ, ◌+◌}
-use native.Mathlib.Omega.{arith}
-use lib.ListN.{length, take}
+use lib.ListN.{take, drop}
+use lib.Seq.{drop-drop}
 use Rattle.std.specs.Prelude.{Option, Some, is_some}
-use Rattle.std.specs.List.{position, position_from}
+use Rattle.std.specs.List.{position, position_from, list_all, enumerate_from}
 use Rattle.std.proofs.lemmas.Iterator.Adapters.{position_from-zero}
 use Rattle.tag.specs.Tags.{Tag, is}
 use Rattle.model.specs.Table.{held, distinct}
@@ -15,6 +15,10 @@ use Rattle.model.specs.View.{rows}
 -- whether a table's rows, each by its tag, have a tag of their own
 abbrev pub seen : {A : Type 0} → (A → Tag) → List A → Bool
 seen f xs = distinct (map (λ x. (f x, x)) xs)
+
+not-not : (b : Bool) → b ≡ not (not b)
+not-not true = refl
+not-not false = refl
 
 module _ {A : Type 0} (f : A → Tag) where
   -- a search finds what the table holds
@@ -30,22 +34,23 @@ module _ {A : Type 0} (f : A → Tag) where
   found : (t : Tag) (xs : List A) → is_some (position (λ x. is (f x) t) xs) ≡ held t (map (λ x. (f x, x)) xs)
   found t xs = ap is_some (position_from-zero (λ x. is (f x) t) xs) ∙ found_from t 0 xs
 
-  module _ (x : A) (xs : List A) {b : Bool} {t : Tag} (tag : t ≡ f x) (search : b ≡ is_some (position (λ y. is (f y) t) xs)) where
-    held_behind : b ≡ held (f x) (map (λ y. (f y, y)) xs)
-    held_behind = search ∙ (found t xs ∙ ap (λ u. held u (map (λ y. (f y, y)) xs)) tag)
+  -- whether no row behind a place has the tag of the row there
+  abbrev pub alone : List A → ℕ × A → Bool
+  alone table p = not (is_some (position (λ x. is (f x) (f p.1)) (drop (p.0 + 1) table)))
 
-    pub twice : b ≡ true → false ≡ seen f (x ∷ xs)
-    unfolding distinct
-    twice e = rw (← held_behind, e)
+  -- what a search behind the place answers
+  pub alone_is : (table : List A) (i : ℕ) (x : A) {t : Tag} {o : Option ℕ} {b : Bool} → t ≡ f x → is_some o ≡ not b → o ≡ position (λ y. is (f y) t) (drop (i + 1) table) → b ≡ alone table (i, x)
+  alone_is table i x {b = b} tag answer sought = not-not b ∙ ap not (sym answer ∙ rw (sought, tag) refl)
 
-    pub once : b ≡ false → seen f (x ∷ xs) ≡ seen f xs
-    unfolding distinct
-    once e = rw (← held_behind, e)
+  alone_from : (table : List A) (n : ℕ) (xs : List A) → drop n table ≡ xs → list_all (alone table) (enumerate_from n xs) ≡ seen f xs
+  unfolding distinct
+  alone_from table n [] e = refl
+  alone_from table n (x ∷ xs) e =
+      let behind : drop (n + 1) table ≡ xs = sym (drop-drop 1 n table) ∙ ap (drop 1) e in
+      rw (behind, found (f x) xs, alone_from table (n + 1) xs behind)
 
-pub none_left : {A : Type 0} (f : A → Tag) (xs : List A) → length xs ≡ 0 → true ≡ seen f xs
-unfolding distinct
-none_left f [] e = refl
-none_left f (x ∷ xs) e = absurd (omega arith)
+  pub all_alone : (table : List A) → list_all (alone table) (enumerate_from 0 table) ≡ seen f table
+  all_alone table = alone_from table 0 table refl
 
 -- ---- as a table by tag
 

@@ -46,10 +46,10 @@ pub becomes : {m : Record} {n i : ℕ} {t : Tag} {a : Result (Option Label) Refu
 becomes {a = Ok x} p = absurd p
 becomes {a = Err x} p = stays p
 
--- what `ok_or` makes of a search that found nothing
-pub none_refused : {A : Type 0} (o : Option A) (e d : Refusal) → Err e ≡ ok_or o d → e ≡ d
-none_refused None e d h = grind arith
-none_refused (Some x) e d h = absurd (grind arith)
+-- what `ok_or` makes of nothing
+pub unmade : {A : Type 0} {e : Refusal} {n i : ℕ} {t : Tag} (o : Option A) (d : Refusal) → Err e ≡ ok_or o d → refusal_of d ≡ refused n t i → refusal_of e ≡ refused n t i
+unmade {e = e} None d h q = let same : e ≡ d = grind arith in ap refusal_of same ∙ q
+unmade (Some x) d h q = absurd (grind arith)
 
 -- done, and a tag made
 pub is_done : {n : Record} → Ends done n (record { answer = Ok None; model = n })

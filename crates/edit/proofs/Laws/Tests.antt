@@ -1,6 +1,6 @@
 -- The code's tests are the definition's. Assumes nothing.
 use mathlib.Core.Path.{◌≡◌, sym, ◌∙◌, subst}
-use mathlib.Core.Bool.{true, false}
+use mathlib.Core.Bool.{Bool, true, false}
 use mathlib.Core.List.{List}
 use mathlib.Core.Option.{none}
 use Prim.Native.Nat.{ℕ, ◌<◌, ◌≤◌}
@@ -27,6 +27,10 @@ use Rattle.edit.specs.Ends.{Refused}
 -- a refusal that carries the label's tag
 pub carrying : {m : Record} {n : ℕ} {t : Tag} {u : Label} {i : ℕ} {r : Edited} → Labelled t u → Refused m n (bytes_of u) i r → Refused m n t i r
 carrying {m} {n} {t} {u} {i} {r} l h = subst (λ (x : Tag). Refused m n x i r) l.bytes h
+
+-- what holds the label's tag
+pub held_as : {A : Type 0} (r : Table A) {t : Tag} {u : Label} {b : Bool} → Labelled t u → held (bytes_of u) r ≡ b → held t r ≡ b
+held_as r {b = b} l h = subst (λ (x : Tag). held x r ≡ b) l.bytes h
 
 -- ---- a search
 

@@ -8,7 +8,7 @@ use native.Mathlib.Numerals.{add-one}
 use native.Mathlib.Nat.{sub-zero}
 use native.Mathlib.Omega.{arith}
 use lib.ListN.{take, length, get_or}
-use Rattle.std.specs.Prelude.{Option, Some, None}
+use Rattle.std.specs.Prelude.{Option, Some, None, is_some}
 use Rattle.std.specs.List.{position as first_position, position_from}
 use Rattle.std.proofs.lemmas.Iterator.Adapters.{position_from-zero}
 use Rattle.tag.specs.Tags.{Tag, is}
@@ -41,6 +41,11 @@ position-free t k (x ∷ r) e = go (is x.0 t) (position-free t (suc k) r) e
     go : (b : Bool) → (position t (suc k) r ≡ None → held t r ≡ false) → cond b (Some k) (position t (suc k) r) ≡ None → b || held t r ≡ false
     go true h f = absurd (let z : ◌≡◌ {A = ℕ} 0 1 = cc in omega arith)
     go false h f = h f
+
+-- whether a search found something is whether the tag is held
+pub searched : {A : Type 0} {r : Table A} {cap : ℕ} {t : Tag} (f : Option ℕ) → Sought r cap t f → is_some f ≡ held t r
+searched {r = r} {t = t} (Some i) p = sym (position-held t 0 i r (sym p.at))
+searched {r = r} {t = t} None p = sym (position-free t 0 r (sym p.at))
 
 -- what is found at a position: within the table, the row there has the tag, and its entry is the one looked up
 pub record Stands {A : Type 0} (t : Tag) (k i : ℕ) (d : Tag × A) (r : Table A) : Type 0 where

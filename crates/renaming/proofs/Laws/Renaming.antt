@@ -1,11 +1,11 @@
 -- Each way out of `rename_component`. Assumes nothing.
-use mathlib.Core.Path.{◌≡◌, refl, sym, ◌∙◌, ap, subst}
+use mathlib.Core.Path.{◌≡◌, sym, ◌∙◌, ap, subst}
 use mathlib.Core.Bool.{Bool, true, false, not}
 use mathlib.Core.List.{List, []}
 use Prim.Native.Nat.{ℕ, ◌≤◌}
 use lib.Dec.{T}
 use lib.ListN.{get_or, set}
-use Rattle.std.specs.Prelude.{Option, Some, None, is_some}
+use Rattle.std.specs.Prelude.{Option, Some, None}
 use Rattle.tag.specs.declared.Tag.{Tag as Label}
 use Rattle.tag.specs.Tags.{Tag, empty, overlong}
 use Rattle.tag.specs.View.{bytes_of, tag_fits, Labelled}
@@ -27,7 +27,7 @@ use Rattle.edit.specs.Meets.{Meets}
 use Rattle.edit.specs.Ends.{Ends, Refused}
 use Rattle.edit.specs.Rows.{with_entry}
 use Rattle.edit.proofs.Laws.Step.{Step, skip, stop, finish_made, meets_on}
-use Rattle.edit.proofs.Laws.Tests.{carrying, taken, free, sought_by, found_row}
+use Rattle.edit.proofs.Laws.Tests.{carrying, held_as, taken, free as unheld, sought_by, found_row}
 use Rattle.removing.specs.Swapping.{PlacesSwapped}
 use Rattle.removing.proofs.Laws.Holding.{Holds, holds_same, swapped_in, holds_swapped, named, named-fits}
 use Rattle.list_moving.specs.Moving.{Movable, ListMoved}
@@ -37,11 +37,6 @@ use Rattle.renaming.specs.Moving.{entry_under, TagMoved}
 -- the component of t and its list moved to u
 abbrev moved_in : Record → Tag → Tag → Model
 moved_in m t u = record { components = move t u (components_of m); lists = move t u (lists_of m); default = place_of m.default }
-
--- whether a search found something is whether the tag is held
-searched : {A : Type 0} {r : Table A} {cap : ℕ} {t : Tag} (f : Option ℕ) → Sought r cap t f → is_some f ≡ held t r
-searched (Some i) p = sym (taken p refl)
-searched None p = sym (free p refl)
 
 -- the tags differ, since one is held and the other is not
 movable : (m : Record) → passes m ≡ true → (x y : Label) → tag_fits y ≡ true → held (bytes_of y) (components_of m) ≡ false → held (bytes_of x) (components_of m) ≡ true → Movable m x y
@@ -61,21 +56,20 @@ module _ (m : Record) (t u : Tag) (r : Edited) (v : passes m ≡ true) where
     unfolding rename
     rename_1_new h z = on (skip (overlong t) 1 empty 0 st (stop (overlong u) 1 empty 0 _ h z))
 
-    module _ (su : overlong u ≡ false) (x : Label) (lx : Labelled t x) (y : Label) (ly : Labelled u y) (f : Option ℕ) (p : Sought (components_of m) 64 (bytes_of y) f) where
-      pub rename_11 : is_some f ≡ true → Refused m 11 (bytes_of y) 0 r → Meets (rename_component t u) m r
+    module _ (su : overlong u ≡ false) (x : Label) (lx : Labelled t x) (y : Label) (ly : Labelled u y) where
+      pub rename_11 : held (bytes_of y) (components_of m) ≡ true → Refused m 11 (bytes_of y) 0 r → Meets (rename_component t u) m r
       unfolding rename view
-      rename_11 e z =
-          on (skip (overlong t) 1 empty 0 st (skip (overlong u) 1 empty 0 su (stop (held u (components_of m)) 11 u 0 _ (sym (searched f (sought_by ly p)) ∙ e) (carrying ly z))))
+      rename_11 h z = on (skip (overlong t) 1 empty 0 st (skip (overlong u) 1 empty 0 su (stop (held u (components_of m)) 11 u 0 _ (held_as _ ly h) (carrying ly z))))
 
-      module _ (n : is_some f ≡ false) (g : Option ℕ) (q : Sought (components_of m) 64 (bytes_of x) g) where
+      module _ (free : held (bytes_of y) (components_of m) ≡ false) (g : Option ℕ) (q : Sought (components_of m) 64 (bytes_of x) g) where
         fresh : held u (components_of m) ≡ false
-        fresh = sym (searched f (sought_by ly p)) ∙ n
+        fresh = held_as _ ly free
 
         pub rename_12 : g ≡ None → Refused m 12 (bytes_of x) 0 r → Meets (rename_component t u) m r
         unfolding rename view
         rename_12 e z =
             on (skip (overlong t) 1 empty 0 st (skip (overlong u) 1 empty 0 su (skip (held u (components_of m)) 11 u 0 fresh
-            (stop (not (held t (components_of m))) 12 t 0 _ (ap not (free (sought_by lx q) e)) (carrying lx z)))))
+            (stop (not (held t (components_of m))) 12 t 0 _ (ap not (unheld (sought_by lx q) e)) (carrying lx z)))))
 
         module _ (i : ℕ) (e : g ≡ Some i) where
           module _ (k : Record) (a : ListMoved m (bytes_of x) (bytes_of y) k) where
@@ -117,7 +111,7 @@ module _ (m : Record) (t u : Tag) (r : Edited) (v : passes m ≡ true) where
               let h : Holds (renamed (view m) t u) w =
               subst (λ (c : Place). Holds (swapped_in t c (moved_in m t u)) w) (named ly)
               (holds_swapped t (Some y) (named-fits ly) o w (subst (λ (c : Tag). PlacesSwapped c (Some y) o w) lx.bytes s.places) (moved_in m t u)
-              (both k (s.moved (movable m v x y ly.short (sym (searched f p) ∙ n) (taken q e))))) in
+              (both k (s.moved (movable m v x y ly.short free (taken q e))))) in
               on (skip (overlong t) 1 empty 0 st (skip (overlong u) 1 empty 0 su (skip (held u (components_of m)) 11 u 0 fresh
               (skip (not (held t (components_of m))) 12 t 0 (ap not (taken (sought_by lx q) e))
               (finish_made (subst (λ (c : Tag). Ends (made c) w r) ly.bytes z) (holds_same h) h.stands)))))

@@ -4,10 +4,10 @@ use mathlib.Core.Logic.{◌≢◌}
 use mathlib.Core.Bool.{true, false}
 use mathlib.Core.List.{List}
 use mathlib.Core.Option.{none, some}
-use Prim.Native.Nat.{ℕ, zero, suc, ◌<◌, ◌≤◌}
+use Prim.Native.Nat.{ℕ, zero, suc, ◌≤◌}
 use lib.Dec.{eqb}
 use lib.ListN.{take, length, length-map}
-use borrow.Author.Tests.{le-leb, lt-leb}
+use borrow.Author.Tests.{le-leb}
 use Rattle.std.specs.Prelude.{Bool, Option, Some, None, MatchOption}
 use Rattle.tag.specs.Tags.{Tag}
 use Rattle.tag.specs.View.{bytes_of, tag_fits}
@@ -18,8 +18,6 @@ use Rattle.model.specs.declared.implicit_model.Model.{Model as Record}
 use Rattle.model.specs.Table.{Table, find}
 use Rattle.model.specs.Model.{Place, counted, list}
 use Rattle.model.specs.View.{place_of, rows, lists_of, view}
-use Rattle.model.proofs.Laws.Bool.{T→true}
-use Rattle.model.proofs.Laws.Places.{counted-zero}
 use Rattle.held.specs.Reading.{places_read}
 use Rattle.sound_components.specs.Sound.{entry_sound}
 
@@ -31,24 +29,16 @@ counted_some : (n : ℕ) (l : List Place) → n ≢ 0 → counted n (some l) ≡
 counted_some zero l h = absurd (h refl)
 counted_some (suc n) l h = refl
 
-module _ (ls : Table (List Place)) (e : ComponentEntry) where
-  pub entry-long : 32 < e.tag.len → entry_sound ls e ≡ false
+module _ (ls : Table (List Place)) (e : ComponentEntry) (short : e.tag.len ≤ 32) (n : ℕ) (takes : n ≡ input_count e.component) where
+  short' : tag_fits e.tag ≡ true
   unfolding tag_fits
-  entry-long h = rw (lt-leb e.tag.len 32 h)
+  short' = le-leb e.tag.len 32 short
 
-  module _ (short : e.tag.len ≤ 32) (n : ℕ) (takes : n ≡ input_count e.component) where
-    short' : tag_fits e.tag ≡ true
-    unfolding tag_fits
-    short' = le-leb e.tag.len 32 short
+  pub entry-missing : n ≢ 0 → find (bytes_of e.tag) ls ≡ none → entry_sound ls e ≡ false
+  entry-missing z p = rw (short', p, counted_none (input_count e.component) (λ q. z (takes ∙ q)))
 
-    pub entry-plain : n ≡ 0 → entry_sound ls e ≡ true
-    entry-plain z = rw (short', T→true _ (counted-zero (input_count e.component) (find (bytes_of e.tag) ls) (sym takes ∙ z)))
-
-    pub entry-missing : n ≢ 0 → find (bytes_of e.tag) ls ≡ none → entry_sound ls e ≡ false
-    entry-missing z p = rw (short', p, counted_none (input_count e.component) (λ q. z (takes ∙ q)))
-
-    pub entry_found : n ≢ 0 → (l : List Place) → find (bytes_of e.tag) ls ≡ some l → entry_sound ls e ≡ eqb (length l) n
-    entry_found z l p = rw (short', p, counted_some (input_count e.component) l (λ q. z (takes ∙ q)), takes)
+  pub entry_found : n ≢ 0 → (l : List Place) → find (bytes_of e.tag) ls ≡ some l → entry_sound ls e ≡ eqb (length l) n
+  entry_found z l p = rw (short', p, counted_some (input_count e.component) l (λ q. z (takes ∙ q)), takes)
 
 -- ---- what `get_inputs` read
 

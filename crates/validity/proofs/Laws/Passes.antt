@@ -3,24 +3,23 @@ use mathlib.Core.Path.{◌≡◌, sym, ◌∙◌, ap, subst}
 use mathlib.Core.Bool.{Bool, true, false, ◌&&◌, and-true}
 use Rattle.std.proofs.Math.Bool.{and_assoc}
 use mathlib.Core.List.{List, [], ◌∷◌, ◌++◌}
-use Prim.Native.Nat.{ℕ, ◌<◌, ◌≤◌}
+use Prim.Native.Nat.{ℕ}
 use native.Mathlib.Omega.{arith}
 use lib.Dec.{T, leb, leb→le, le→leb}
 use lib.ListN.{length}
-use borrow.Author.Tests.{le-leb, lt-leb}
-use Rattle.std.specs.Prelude.{Option, Some, None, is_some}
+use Rattle.std.specs.Prelude.{Option, Some, None, MatchOption, is_some}
 use Rattle.tag.specs.declared.Tag.{Tag as Label}
 use Rattle.tag.specs.View.{bytes_of, tag_fits}
 use Rattle.component.specs.declared.model_component.Component.{Component}
 use Rattle.model.specs.declared.implicit_model.Model.{Model as Record}
-use Rattle.model.specs.Table.{Table, held, distinct}
+use Rattle.model.specs.Table.{Table, distinct}
 use Rattle.model.specs.Model.{short_tag, good_list, listed, named, tests, valid}
-use Rattle.model.specs.View.{place_of, rows, component_of, list_of, components_of, lists_of, view, every, place_fits, entry_fits, list_fits, sizes, fits, passes}
-use Rattle.held.specs.Search.{position, Sought}
+use Rattle.model.specs.View.{PlaceRecord, place_of, rows, component_of, list_of, components_of, lists_of, view, every, place_fits, entry_fits, list_fits, sizes, fits, passes}
+use Rattle.held.specs.Search.{Sought}
 use Rattle.model.proofs.Laws.Bool.{and_T, and_T₁, and_T₂}
 use Rattle.model.proofs.Laws.Valid.{passed, unpassed, ◌▸◌}
 use Rattle.held.proofs.Laws.Rows.{rows-length}
-use Rattle.held.proofs.Laws.Search.{position-held, position-free}
+use Rattle.held.proofs.Laws.Search.{searched}
 use Rattle.sound_lists.specs.Sound.{list_sound}
 use Rattle.sound_lists.proofs.Laws.Lists.{bool_ext, all-rows, imply_rows, join_rows, fits-short, list_parts}
 use Rattle.sound_components.specs.Sound.{entry_sound}
@@ -54,18 +53,20 @@ module _ (bs : List Bool) (x : Bool) {b r : Bool} (h : b ≡ every bs) where
 
 -- ---- the default
 
-module _ (cs : Table Component) (t : Label) where
-  pub default-long : 32 < t.len → false ≡ default_sound cs (Some t)
-  unfolding place_fits place_of tag_fits
-  default-long h = sym (rw (lt-leb t.len 32 h))
+module _ (cs : Table Component) where
+  pub default-long : (t : Label) → tag_fits t ≡ false → false ≡ default_sound cs (Some t)
+  unfolding place_fits
+  default-long t h = sym (rw h)
 
-  pub default-searched : {cap : ℕ} {f : Option ℕ} → t.len ≤ 32 → Sought cs cap (bytes_of t) f → is_some f ≡ default_sound cs (Some t)
-  unfolding place_fits place_of tag_fits
-  default-searched h p = rw (le-leb t.len 32 h) (go _ p.at)
-    where
-      go : (f : Option ℕ) → f ≡ position (bytes_of t) 0 cs → is_some f ≡ held (bytes_of t) cs
-      go (Some i) e = sym (position-held _ 0 i cs (sym e))
-      go None e = sym (position-free _ 0 cs (sym e))
+  pub default-searched : (t : Label) {cap : ℕ} (f : Option ℕ) → tag_fits t ≡ true → Sought cs cap (bytes_of t) f → is_some f ≡ default_sound cs (Some t)
+  unfolding place_fits place_of
+  default-searched t f h p = rw h (searched f p)
+
+  -- a test of the default, where there is one
+  pub default-asked : (p : PlaceRecord) (r : Bool) {P : Label → Type 0} → ((t : Label) → P t → r ≡ default_sound cs (Some t)) → MatchOption p (r ≡ true) P → r ≡ default_sound cs p
+  unfolding place_fits place_of
+  default-asked None r f h = h
+  default-asked (Some t) r f h = f t h
 
 -- ---- all of it
 

@@ -1,20 +1,21 @@
 -- The walk over rows of lists answers what the walk over tags is defined to. Assumes nothing.
 use mathlib.Core.Path.{◌≡◌, refl, sym, ◌∙◌, ap, subst}
-use mathlib.Core.Logic.{◌≢◌}
+use mathlib.Core.Logic.{◌≢◌, ◌↔◌, ⊎_elim}
 use mathlib.Core.Bool.{Bool, true, false, cond, ◌||◌}
+use mathlib.Core.List.Memᴰ
 use mathlib.Core.List.{List, [], ◌∷◌, ◌++◌, append_assoc, append-nil}
 use mathlib.Core.Option
 use mathlib.Core.Option.{Option, none, some}
-use Prim.Native.Nat.{ℕ, zero, suc, ◌+◌, ◌<◌}
+use Prim.Native.Nat.{ℕ, zero, suc, ◌+◌}
 use native.Mathlib.Nat.{add-suc}
 use native.Mathlib.Omega.{arith}
-use lib.ListN.{length, get_or, set}
-use lib.Seq.{get_or-set_same, get_or-set_other}
+use lib.ListN.{get_or}
 use Rattle.tag.specs.Tags.{Tag, is}
 use Rattle.tag.proofs.Laws.Is.{is_refl, is_true, is_false}
 use Rattle.model.specs.Table.{any, Table, find}
 use Rattle.model.specs.Model.{Place, Model, inputs}
 use Rattle.model.specs.Walk.{gap, tags, fresh, Walked, clear, met, gapped, walk}
+use Rattle.nodes.specs.Nodes.{◌∈◌}
 use Rattle.walking.specs.Walking.{Row}
 
 -- ---- the order in which tags were seen does not matter
@@ -122,12 +123,12 @@ rows-present e ts rs nothing = present e nothing
 rows-present e ts rs (absent {ts = us} n h) = absent n (rows-present e us rs h)
 rows-present e ts rs (present {ts = us} {rs = qs} x h) = present x (rows-present e us qs h)
 
--- every row that has been in the line is marked, and no other
-abbrev pub Marked : Table (List Place) → List Tag → List Bool → Type 0
-Marked table seen bs = (r : ℕ) (t : Tag) (l : List Place) → Row table r t l → any (is t) seen ≡ get_or bs r false
+-- the rows whose tags have been seen are those that have been in the line
+abbrev pub Marked : Table (List Place) → List Tag → List ℕ → Type 0
+Marked table seen bs = (r : ℕ) (t : Tag) (l : List Place) → Row table r t l → (any (is t) seen ≡ true) ↔ (r ∈ bs)
 
--- the walk that answers a stands between two turns: these rows are marked, and those wait
-pub record Waits (m : Model) (target : Tag) (a : Walked) (bs : List Bool) (rs : List ℕ) : Type 0 where
+-- the walk that answers a stands between two turns: the rows bs have been in the line, and rs wait
+pub record Waits (m : Model) (target : Tag) (a : Walked) (bs rs : List ℕ) : Type 0 where
   pub turns : ℕ
   pub seen : List Tag
   pub line : List Tag
@@ -136,7 +137,7 @@ pub record Waits (m : Model) (target : Tag) (a : Walked) (bs : List Bool) (rs : 
   pub rows : Rows m.lists line rs
 
 -- it stands in the turn of t, whose places from i on are l
-pub record Scans (m : Model) (target : Tag) (a : Walked) (t : Tag) (i : ℕ) (l : List Place) (bs : List Bool) (rs : List ℕ) : Type 0 where
+pub record Scans (m : Model) (target : Tag) (a : Walked) (t : Tag) (i : ℕ) (l : List Place) (bs rs : List ℕ) : Type 0 where
   pub turns : ℕ
   pub seen : List Tag
   pub line : List Tag
@@ -156,7 +157,7 @@ module _ (m : Model) (target : Tag) (a : Walked) (found : (r : ℕ) (t : Tag) (l
   next {x} turns d seen line h = subst (λ (n : ℕ). walk n m target seen line ≡ x) (add-suc turns d) h
 
   -- nothing waits: the walk is clear
-  pub waits_end : {bs : List Bool} → Waits m target a bs [] → a ≡ clear
+  pub waits_end : {bs : List ℕ} → Waits m target a bs [] → a ≡ clear
   waits_end w = go w.line w.rows w.answer
     where
       go : (line : List Tag) → Rows m.lists line [] → ((d : ℕ) → walk (w.turns + d) m target w.seen line ≡ a) → a ≡ clear
@@ -164,7 +165,7 @@ module _ (m : Model) (target : Tag) (a : Walked) (found : (r : ℕ) (t : Tag) (l
       go line (absent {t} {ts} e r) h = go ts r (λ d. sym (absent_turn (w.turns + d) t w.seen ts e) ∙ next w.turns d w.seen (t ∷ ts) (h (suc d)))
 
   -- the first that waits has its turn
-  pub waits_first : {bs : List Bool} {r : ℕ} {rs : List ℕ} → Waits m target a bs (r ∷ rs)
+  pub waits_first : {bs : List ℕ} {r : ℕ} {rs : List ℕ} → Waits m target a bs (r ∷ rs)
       → (t : Tag) × (l : List Place) × Row m.lists r t l × (is t target ≡ true → a ≡ met) × (is t target ≡ false → Scans m target a t 0 l bs rs)
   waits_first {bs} {r} {rs} w = go w.line w.rows w.answer
     where
@@ -188,7 +189,7 @@ module _ (m : Model) (target : Tag) (a : Walked) (found : (r : ℕ) (t : Tag) (l
             }),
           )
 
-  module _ (t : Tag) (i : ℕ) {bs : List Bool} {rs : List ℕ} where
+  module _ (t : Tag) (i : ℕ) {bs rs : List ℕ} where
     -- a gap
     pub scans_gap : {l : List Place} → Scans m target a t i (none ∷ l) bs rs → a ≡ gapped t i
     scans_gap {l} s = sym (s.answer 0) ∙ scan_gap (s.turns + 0) m target t s.seen s.line i l
@@ -215,7 +216,7 @@ module _ (m : Model) (target : Tag) (a : Walked) (found : (r : ℕ) (t : Tag) (l
         answer = λ d. sym (scan_old (s.turns + d) m target t s.seen s.line i u l e) ∙ s.answer d;
       }
 
-      seen_first : {cs : List Bool} {qs : List ℕ} → any (is u) s.seen ≡ false → Marked m.lists (u ∷ s.seen) cs → Rows m.lists (s.line ++ (u ∷ [])) qs
+      seen_first : {cs qs : List ℕ} → any (is u) s.seen ≡ false → Marked m.lists (u ∷ s.seen) cs → Rows m.lists (s.line ++ (u ∷ [])) qs
           → Scans m target a t (suc i) l cs qs
       seen_first e k r = record {
         turns = s.turns;
@@ -235,23 +236,28 @@ module _ (m : Model) (target : Tag) (a : Walked) (found : (r : ℕ) (t : Tag) (l
 
           go : (b : Bool) → any (is u) s.seen ≡ b → Scans m target a t (suc i) l bs rs
           go true e = seen-before e
-          go false e = seen_first e (λ r v k x. ap (λ (b : Bool). b || any (is v) s.seen) (other r v k x) ∙ s.marked r v k x) (rows-absent u n s.line rs s.rows)
+          go false e = seen_first e (λ r v k x. subst (λ (b : Bool). (b || any (is v) s.seen ≡ true) ↔ (r ∈ bs)) (sym (other r v k x)) (s.marked r v k x)) (rows-absent u n s.line rs s.rows)
 
-      pub scans_again : {q : ℕ} {k : List Place} → Row m.lists q u k → get_or bs q false ≡ true → Scans m target a t (suc i) l bs rs
-      scans_again {q} {k} x e = seen-before (s.marked q u k x ∙ e)
+      pub scans_again : {q : ℕ} {k : List Place} → Row m.lists q u k → q ∈ bs → Scans m target a t (suc i) l bs rs
+      scans_again {q} {k} x e = seen-before ((s.marked q u k x).1 e)
 
       pub scans_joins : (apart : (r q : ℕ) (v : Tag) (j k : List Place) → Row m.lists r v j → Row m.lists q v k → r ≡ q)
-          → {q : ℕ} {k : List Place} → Row m.lists q u k → q < length bs → get_or bs q false ≡ false → Scans m target a t (suc i) l (set bs q true) (rs ++ (q ∷ []))
-      scans_joins apart {q} {k} x h e = seen_first (s.marked q u k x ∙ e) marked (rows-present x s.line rs s.rows)
+          → {q : ℕ} {k : List Place} → Row m.lists q u k → ¬ (q ∈ bs) → Scans m target a t (suc i) l (bs ++ (q ∷ [])) (rs ++ (q ∷ []))
+      scans_joins apart {q} {k} x new = seen_first (unseen (any (is u) s.seen) refl) marked (rows-present x s.line rs s.rows)
         where
-          marked : Marked m.lists (u ∷ s.seen) (set bs q true)
+          unseen : (b : Bool) → any (is u) s.seen ≡ b → b ≡ false
+          unseen true e = absurd (new ((s.marked q u k x).0 e))
+          unseen false e = refl
+
+          marked : Marked m.lists (u ∷ s.seen) (bs ++ (q ∷ []))
           marked r v j y = go (is v u) refl
             where
-              go : (b : Bool) → is v u ≡ b → b || any (is v) s.seen ≡ get_or (set bs q true) r false
-              go true p =
-                  let z : r ≡ q = apart r q v j k y (subst (λ (w : Tag). Row m.lists q w k) (sym (is_true v u p)) x) in
-                  sym (ap (λ (n : ℕ). get_or (set bs q true) n false) z ∙ get_or-set_same bs q true false h)
-              go false p = s.marked r v j y ∙ sym (get_or-set_other bs q r true false (λ z. differ z))
+              go : (b : Bool) → is v u ≡ b → (b || any (is v) s.seen ≡ true) ↔ (r ∈ bs ++ (q ∷ []))
+              go true p = ((λ e. Memᴰ.append_right bs (Memᴰ.head (apart r q v j k y (subst (λ (w : Tag). Row m.lists q w k) (sym (is_true v u p)) x)))), (λ e. refl))
+              go false p = (
+                (λ e. Memᴰ.append_left (q ∷ []) ((s.marked r v j y).0 e)),
+                (λ e. ⊎_elim (s.marked r v j y).1 (λ f. absurd (differ (Memᴰ.eq_of_singleton f))) (Memᴰ.append_cases bs e)),
+              )
                 where
                   differ : r ≡ q → ⊥
                   differ z =
