@@ -21,8 +21,7 @@ fn write_tags(m: &Model, g: &Graph, order: &mut [u8])
     requires { Workable m.now g.now × (2560 ≤ length order.old) }
     ensures { Wrote (λ u. rows_in (tag_row u) g.now.count) (some (rows (tag_at m.now) g.now.count g.now.order)) 0 (40 * g.now.count) order.old order.new }
 {
-    for i in 0..g.count {
-        let x = g.order[i];
+    for (i, &x) in g.positions().iter().enumerate() {
         write_tag(order, 40 * i, m.components[x].tag);
     }
 }

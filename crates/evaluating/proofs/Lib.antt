@@ -1,1 +1,2 @@
-mod Laws
+-- `Laws` is what the functions' proofs cite, here and in `compiling`.
+pub mod Laws

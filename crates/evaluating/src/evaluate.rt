@@ -13,44 +13,40 @@ use model::implicit_model::Model;
 use model::model_error::Refusal;
 use nodes::Wire;
 
-// The number that a wire brings; NaN where it leads to no component: such a place is not read.
+// The number of the component that a wire leads to. A place past the end of its list leads to none: NaN, which nothing reads, since a component has as many places as inputs.
+// Kept: crate direct has an input's number too, but none where the component is not computed yet, which its line of rows does not rule out. An order does, so one function for both would answer an Option that is never None here.
 #[tactic(auto, using(crate::proofs::Laws::Along::nan_is))]
 fn input(vals: &[f64; 64], wire: Wire) -> f64
     ensures { result ≡ input_of vals.now wire }
 {
-    match wire {
-        Wire::To(x) if x < 64 => vals[x as usize],
-        _ => f64::NAN,
-    }
+    wire.component().map_or(f64::NAN, |x| vals[x])
 }
 
-// The number of the last component of an order, worked along it.
-#[tactic(auto, using(crate::proofs::Laws::Along::small, crate::proofs::Laws::Along::some_of_them))]
+// Computes the components of an order, each behind its inputs. The last one's number is the target's.
+#[tactic(auto, using(crate::proofs::Laws::Along::small_at))]
 fn number_along(m: &Model, g: &Graph, p: Vec3) -> f64
     requires { Workable m.now g.now }
     ensures { (t : Bytes) → OrdersAs m.now t g.now → Number (view m.now) p t result }
 {
     let mut vals = [0.0; 64];
-    for k in 0..g.count {
-        let x = g.order[k];
+    let mut number = f64::NAN;
+    for &x in g.positions() {
         let c = m.components[x].component;
-        let [first, second, third] = g.inputs[x];
-        let a = input(&vals, first);
-        let b = input(&vals, second);
-        let d = input(&vals, third);
-        vals[x] = c.compute(p, a, b, d);
+        let [first, second, third] = g.inputs[x].map(|wire| input(&vals, wire));
+        number = c.compute(p, first, second, third);
+        vals[x] = number;
     }
-    vals[g.order[g.count - 1]]
+    number
 }
 
-// The bits of the number of the target's form at a point, or compile's refusal handed on.
+// The bits of the number of the target's form at a point, or compile's refusal.
 pub fn evaluate_at(m: &Model, target: &[u8], p: Vec3) -> Result<u64, Refusal>
     ensures { EvaluatesAs m.now target.now p result }
 {
     let compiled = compile(m, target);
+    // Kept: document 01 names this form, `let .. else`, in evaluate_at.
     let Ok(graph) = compiled else {
-        // It is the refusal.
-        return compiled.and(Ok(0));
+        return Err(compiled.unwrap_err());
     };
     let number = number_along(m, &graph, p);
     Ok(bits_of(number))

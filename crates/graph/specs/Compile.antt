@@ -15,6 +15,7 @@ use Rattle.graph.specs.declared.computation_graph.Graph.{Graph}
 use Rattle.nodes.specs.declared.Wire.{Wire}
 use Rattle.nodes.specs.declared.Wire.TheVariants.{Past}
 use Rattle.nodes.specs.Nodes.{LaysOut, Marks, Copied}
+use Rattle.resolving.specs.declared.slots.ListWires.{ListWires}
 use Rattle.resolving.specs.Slots.{place_want, node_of, settled, Resolved}
 use Rattle.graph.specs.Wiring.{Wired}
 
@@ -59,8 +60,8 @@ pub record Placing (xs : List ℕ) (w : List (List Wire)) (g : Graph) : Type 0 w
   pub order : Filled xs g.order
   pub inputs : Copied 64 w g.inputs
 
--- the form of a target that 7, 1 and 14 let pass: its slots resolved, its wires drawn, its reach laid out
-pub record Formed (no : InputList) (m : Record) (t : Tag) (found w : List (List Wire)) (xs : List ℕ) (whole : Bool) (seen : List Bool) : Type 0 where
+-- the form of a target that 7, 1 and 14 let pass: its lists resolved, its wires drawn, its reach laid out
+pub record Formed (no : InputList) (m : Record) (t : Tag) (found : List ListWires) (w : List (List Wire)) (xs : List ℕ) (whole : Bool) (seen : List Bool) : Type 0 where
   pub fits : passes m ≡ true
   pub short : overlong t ≡ false
   pub live : min m.list_count (length m.lists) ≡ min m.list_count 128
@@ -72,5 +73,5 @@ pub record Formed (no : InputList) (m : Record) (t : Tag) (found w : List (List 
   pub marked : Marks reach seen
 
 -- an answer to every target that has this form
-abbrev pub Judged : InputList → Record → List (List Wire) → List (List Wire) → List ℕ → List Bool → Result Graph Refusal → Type 0
+abbrev pub Judged : InputList → Record → List ListWires → List (List Wire) → List ℕ → List Bool → Result Graph Refusal → Type 0
 Judged d m found w xs seen r = (t : Tag) → Formed d m t found w xs false seen → CompilesAs m t r

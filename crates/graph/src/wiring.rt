@@ -1,18 +1,19 @@
 // The wires of a form, by node.
+ghost use Rattle.std.specs.Prelude.{length};
 ghost use Rattle.graph.specs.Wiring.{Owned, Wired};
 
-use nodes::Wire;
+use nodes::{Wire, Wires};
+use resolving::slots::ListWires;
 
 // The places of each node's list.
-pub(crate) fn wires(found: &[[Wire; 4]; 128], n: usize) -> [[Wire; 3]; 192]
-    requires { Owned found.now n }
-    ensures { Wired found.now n result }
+pub(crate) fn wires(lists: &[ListWires]) -> Wires
+    requires { Owned lists.now (length lists.now) }
+    ensures { Wired lists.now (length lists.now) result }
 {
     let mut w = [[Wire::Past; 3]; 192];
-    for l in 0..n {
-        let [own, first, second, third] = found[l];
-        if let Some(x) = own.node() {
-            w[x] = [first, second, third];
+    for list in lists {
+        if let Some(x) = list.own.node() {
+            w[x] = list.places;
         }
     }
     w

@@ -1,5 +1,5 @@
 -- From the record to nodes and wires: what the helpers of compile promise of tags. Definitions only.
-use Rattle.std.specs.Prelude.{ℕ, zero, suc, ◌+◌, ◌*◌, ◌<◌, min, ◌≡◌, List, [], ◌∷◌, length, get_or, Option, Some, None}
+use Rattle.std.specs.Prelude.{ℕ, zero, suc, ◌+◌, ◌<◌, min, ◌≡◌, List, [], ◌∷◌, length, get_or, Option, Some, None}
 use Rattle.std.proofs.Math.Option.{none, some}
 use Rattle.tag.specs.Tags.{Tag}
 use Rattle.tag.specs.View.{bytes_of}
@@ -9,10 +9,9 @@ use Rattle.model.specs.Model.{Place}
 use Rattle.model.specs.View.{place_of, rows, components_of, lists_of}
 use Rattle.held.specs.Search.{position}
 use Rattle.nodes.specs.declared.Wire.{Wire}
-use Rattle.nodes.specs.declared.Wire.TheVariants.{Gap, Past as NoPlace}
+use Rattle.nodes.specs.declared.Wire.TheVariants.{Gap, Past}
 use Rattle.nodes.specs.Nodes.{target, wire_to}
-use Rattle.resolving.specs.declared.slots.Slot.{Slot}
-use Rattle.resolving.specs.declared.slots.Slot.TheVariants.{Named, Unassigned, Past}
+use Rattle.resolving.specs.declared.slots.ListWires.{ListWires}
 
 -- ---- nodes
 
@@ -30,7 +29,7 @@ abbrev pub NodeOf : Record → Tag → Option ℕ → Type 0
 NodeOf m a (Some x) = (x < 192) × (x ≡ node_of m a)
 NodeOf m a None = 192 ≡ node_of m a
 
--- ---- what stands in a list: a tag to look up, a gap, or nothing
+-- ---- what stands in a place of a list: a tag to look up, a gap, or nothing
 
 pub data Want : Type 0 where
   look : Tag → Want
@@ -44,38 +43,29 @@ place_want (none ∷ l) zero = unassigned
 place_want (some a ∷ l) zero = look a
 place_want (q ∷ l) (suc p) = place_want l p
 
--- slot 0 of a list is its own tag, slot 1 its place 0, and so on
-abbrev pub want_of : InputList → ℕ → Want
-want_of l zero = look (bytes_of l.tag)
-want_of l (suc p) = place_want (rows place_of l.count l.places) p
-
--- what the code says of a slot
-abbrev pub slot_of : Slot → Want
-slot_of (Named t) = look (bytes_of t)
-slot_of Unassigned = unassigned
-slot_of Past = no_place
-
--- the wire that a slot comes to
+-- the wire that it comes to
 abbrev pub settled : Record → Want → Wire
 settled m (look a) = wire_to (node_of m a)
 settled m unassigned = Gap
-settled m no_place = NoPlace
+settled m no_place = Past
 
--- ---- arrays
+-- ---- lists
 
--- the slots of the live lists, four to a list
-abbrev pub slots : Record → ℕ
-slots m = min m.list_count 128 * 4
+-- the wires of a list: that of its own tag, and those in its three places
+pub record Settled (m : Record) (l : InputList) (wires : ListWires) : Type 0 where
+  pub own : wires.own ≡ wire_to (node_of m (bytes_of l.tag))
+  pub size : length wires.places ≡ 3
+  pub each : (p : ℕ) → p < 3 → get_or wires.places p Past ≡ settled m (place_want (rows place_of l.count l.places) p)
 
--- the wires of a list's four slots
-pub record Settled (m : Record) (l : InputList) (row : List Wire) : Type 0 where
-  pub each : (q : ℕ) → q < 4 → get_or row q NoPlace ≡ settled m (want_of l q)
+-- what is read past the end of the lists' wires, which nothing does
+abbrev pub no_wires : ListWires
+no_wires = record { own = Past; places = [] }
 
 -- `no` stands for what is read past a table's end, which nothing does
-pub record Resolved (no : InputList) (m : Record) (found : List (List Wire)) : Type 0 where
+pub record Resolved (no : InputList) (m : Record) (found : List ListWires) : Type 0 where
   pub found-length : length found ≡ 128
-  pub each : (l : ℕ) → l < min m.list_count 128 → Settled m (get_or m.lists l no) (get_or found l [])
+  pub each : (l : ℕ) → l < min m.list_count 128 → Settled m (get_or m.lists l no) (get_or found l no_wires)
 
 -- the node of the tag of a list, by its wires
-abbrev pub owner_of : List (List Wire) → ℕ → Option ℕ
-owner_of found l = target (get_or (get_or found l []) 0 NoPlace)
+abbrev pub owner_of : List ListWires → ℕ → Option ℕ
+owner_of found l = target (get_or found l no_wires).own

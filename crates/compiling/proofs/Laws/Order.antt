@@ -5,7 +5,7 @@ use mathlib.Core.Bool.{Bool, true, false, not}
 use mathlib.Core.List.{List, []}
 use mathlib.Core.Option.{Option, none, some}
 use native.Mathlib.Omega.{arith}
-use lib.ListN.{length, get_or, length-map, length-take, get_or-map}
+use lib.ListN.{length, get_or, length-map, get_or-map}
 use Rattle.std.specs.Prelude.{Some, Result, Ok, Err, IsErrAnd}
 use Rattle.tag.specs.Tags.{Tag, empty}
 use Rattle.tag.specs.View.{bytes_of}
@@ -17,12 +17,12 @@ use Rattle.model.specs.Model.{Model}
 use Rattle.model.specs.Form.{Compiling as Ending, ordered, stopped, Compiled, refusal, invalid}
 use Rattle.model.specs.View.{rows, component_of, components_of, view, fits, passes}
 use Rattle.model.proofs.Laws.Bool.{true→T}
-use Rattle.held.proofs.Laws.Rows.{no_entry, rows-length, rows_at}
-use Rattle.held.proofs.Laws.Standing.{standing}
+use Rattle.held.proofs.Laws.Rows.{no_entry, rows_at}
 use Rattle.graph.specs.declared.computation_graph.Graph.{Graph}
 use Rattle.graph.specs.Compile.{tag_at, positions_of, OrdersAs, RefusesAs}
 use Rattle.nodes.proofs.Laws.Wires.{take_at}
 use Rattle.evaluating.specs.Evaluate.{Workable}
+use Rattle.evaluating.proofs.Laws.Along.{room, held, at_hand}
 use Rattle.layout.proofs.Kept.{kept-none}
 use Rattle.rows.specs.Rows.{tag_in, rows_in}
 use Rattle.rows.specs.Written.{Wrote}
@@ -54,31 +54,30 @@ module _ (m : Record) (t : Tag) (fit : fits m ≡ true) where
 -- ---- the tags of an order
 
 module _ (m : Record) (g : Graph) (w : Workable m g) where
-  order-room : g.count ≤ length g.order
-  order-room = omega (arith, w.compiled.counted, length-take g.count g.order)
-
-  order-held : (k : ℕ) → k < g.count → get_or g.order k 0 < length (components_of m)
-  order-held k h = w.compiled.held (get_or g.order k 0) (take_at g.order g.count k h order-room)
-
-  pub order_small : (k : ℕ) → k < g.count → get_or g.order k 0 < 64
-  order_small k h = omega (arith, order-held k h, rows-length component_of m.components m.component_count, (standing m w.compiled.passing).few)
-
   order_tag : (k : ℕ) → k < g.count → bytes_of (get_or m.components (get_or g.order k 0) no_entry).tag ≡ tag_at m (get_or g.order k 0)
   unfolding bytes_of
   order_tag k h =
       sym
       (get_or-map (λ e. e.0) (components_of m) (get_or g.order k 0) (component_of no_entry)
-      ∙ ap (λ e. e.0) (rows_at component_of m.components m.component_count (get_or g.order k 0) no_entry (order-held k h)))
+      ∙ ap (λ e. e.0) (rows_at component_of m.components m.component_count (get_or g.order k 0) no_entry (held m g w.target w.compiled (get_or g.order k 0) (take_at g.order g.count k h (room m g w.target w.compiled)))))
 
   pub tags-none : (s : List ℕ) → Wrote (λ v. rows_in (tag_row v) 0) (some (rows (tag_at m) 0 g.order)) 0 (40 * 0) s s
   tags-none s = rows-wrote-none (tag_at m) tag_row 0 40 (λ k. 40 * k) (λ k i h. omega arith) (λ s t k a. tag_local a) s g.order
 
-  pub tags-more : {s t u : List ℕ} {i : ℕ} → i < g.count → Wrote (λ v. rows_in (tag_row v) i) (some (rows (tag_at m) i g.order)) 0 (40 * i) s t
+  tags-more : {s t u : List ℕ} {i : ℕ} → i < g.count → Wrote (λ v. rows_in (tag_row v) i) (some (rows (tag_at m) i g.order)) 0 (40 * i) s t
       → Wrote (λ v. tag_in v (40 * i)) (some (bytes_of (get_or m.components (get_or g.order i 0) no_entry).tag)) (40 * i) 40 t u
       → Wrote (λ v. rows_in (tag_row v) (i + 1)) (some (rows (tag_at m) (i + 1) g.order)) 0 (40 * (i + 1)) s u
   tags-more {t = t} {u = u} {i = i} h p q =
-      rows-wrote-more (tag_at m) tag_row 0 40 (λ k. 40 * k) (λ k i h. omega arith) (λ s t k a. tag_local a) _ g.order 0 (omega (arith, order-room)) (omega arith) (omega arith) p
+      rows-wrote-more (tag_at m) tag_row 0 40 (λ k. 40 * k) (λ k i h. omega arith) (λ s t k a. tag_local a) _ g.order 0 (omega (arith, room m g w.target w.compiled)) (omega arith) (omega arith) p
       (subst (λ (b : Tag). Wrote (λ v. tag_in v (40 * i)) (some b) (40 * i) 40 t u) (order_tag i h) q)
+
+  -- the same at a position of the order's slice
+  pub tags-next : {xs s t u : List ℕ} {i : ℕ} → xs ≡ positions_of g → i < length xs → Wrote (λ v. rows_in (tag_row v) i) (some (rows (tag_at m) i g.order)) 0 (40 * i) s t
+      → Wrote (λ v. tag_in v (40 * i)) (some (bytes_of (get_or m.components (get_or xs i 0) no_entry).tag)) (40 * i) 40 t u
+      → Wrote (λ v. rows_in (tag_row v) (i + 1)) (some (rows (tag_at m) (i + 1) g.order)) 0 (40 * (i + 1)) s u
+  tags-next {t = t} {u = u} {i = i} e h p q =
+      let (lt, same) = at_hand m g w.target w.compiled e i h in
+      tags-more lt p (subst (λ (y : ℕ). Wrote (λ v. tag_in v (40 * i)) (some (bytes_of (get_or m.components y no_entry).tag)) (40 * i) 40 t u) same q)
 
   pub tags-count : length (tags_of m g) ≡ g.count
   tags-count = length-map (positions_of g) (tag_at m) ∙ w.compiled.counted

@@ -14,7 +14,7 @@ use lib.Ieee.{Float, nan, binary64, to_bits, of_bits, of_fields, odd}
 use lib.ListN.{length, get_or, take, drop, set, length-set, length-take, length-map, length-append, get_or-map}
 use lib.Seq.{take-suc, split_at, take-take, get_or-take, length-take-le, get_or-set_same, get_or-set_other}
 use borrow.Author.Tests.{lt-ltb}
-use Rattle.std.specs.Prelude.{Some, Result, Ok, Err, IsErrAnd}
+use Rattle.std.specs.Prelude.{Some, Ok, Err}
 use Rattle.tag.specs.Tags.{Tag, overlong}
 use Rattle.tag.specs.View.{bytes_of}
 use Rattle.geometry.specs.declared.vec3f.Vec3.{Vec3}
@@ -32,7 +32,7 @@ use Rattle.graph.specs.declared.computation_graph.Graph.{Graph}
 use Rattle.nodes.specs.declared.Wire.TheVariants.{To, Absent, Past}
 use Rattle.nodes.specs.Nodes.{◌∈◌, wire_to}
 use Rattle.resolving.specs.Slots.{look, place_want, node_of, settled}
-use Rattle.graph.specs.Compile.{tag_at, OrdersAs, RefusesAs}
+use Rattle.graph.specs.Compile.{tag_at, positions_of, OrdersAs, RefusesAs}
 use Rattle.evaluating.specs.Evaluate.{input_of, EvaluatesAs}
 use Rattle.nodes.proofs.Laws.Order.{snoc_cut, no_cut}
 use Rattle.nodes.proofs.Laws.Wires.{take_at}
@@ -106,9 +106,10 @@ pub record Formed (m : Model) (t : Tag) (o : List Tag) : Type 0 where
 formed : {m : Model} {t : Tag} {o : List Tag} → Compiled m t ordered o → Formed m t o
 formed (order v s c o) = record { sound = v; short = s; compiles = c; order = o }
 
--- the first k components of the order have their numbers
-pub record Worked (m : Record) (order : List ℕ) (p : Vec3) (vals : List Float) (k : ℕ) : Type 0 where
+-- the first k components of the order have their numbers, and `number` is that of the last of them
+pub record Worked (m : Record) (order : List ℕ) (p : Vec3) (vals : List Float) (number : Float) (k : ℕ) : Type 0 where
   pub vals_length : length vals ≡ 64
+  pub last : (i : ℕ) → i + 1 ≡ k → number ≡ get_or vals (get_or order i 0) nan
   pub right : (i : ℕ) → i ∈ take k order → Number (view m) p (tag_at m i) (get_or vals i nan)
 
 module _ (m : Record) (g : Graph) (t : Tag) (says : OrdersAs m t g) where
@@ -124,11 +125,18 @@ module _ (m : Record) (g : Graph) (t : Tag) (says : OrdersAs m t g) where
   pub room : n ≤ length g.order
   room = omega (arith, says.counted, length-take n g.order)
 
-  held : (x : ℕ) → x ∈ take n g.order → x < length (components_of m)
+  pub held : (x : ℕ) → x ∈ take n g.order → x < length (components_of m)
   held = says.held
 
-  pub small : (k : ℕ) → k < n → get_or g.order k 0 < 64
+  small : (k : ℕ) → k < n → get_or g.order k 0 < 64
   small k h = omega (arith, held _ (take_at g.order n k h room), rows-length component_of m.components m.component_count, fit.few)
+
+  -- the position at hand
+  pub at_hand : {xs : List ℕ} → xs ≡ positions_of g → (k : ℕ) → k < length xs → (k < n) × (get_or xs k 0 ≡ get_or g.order k 0)
+  at_hand e k h = let lt : k < n = omega (arith, ap length e, says.counted) in (lt, ap (λ (l : List ℕ). get_or l k 0) e ∙ get_or-take n g.order k 0 lt)
+
+  pub small_at : {xs : List ℕ} → xs ≡ positions_of g → (k : ℕ) → k < length xs → get_or xs k 0 < 64
+  small_at e k h = let (lt, same) = at_hand e k h in subst (λ (z : ℕ). z < 64) (sym same) (small k lt)
 
   seated : (x : ℕ) → x ∈ take n g.order → position (tag_at m x) 0 (components_of m) ≡ Some x
   unfolding bytes_of
@@ -138,7 +146,7 @@ module _ (m : Record) (g : Graph) (t : Tag) (says : OrdersAs m t g) where
   unfolding view
   holds x h = (entry_row m (tag_at m x) x (seated x h)).entry
 
-  module _ (p : Vec3) (vals : List Float) (k : ℕ) (w : Worked m g.order p vals k) (h : k < n) where
+  module _ (p : Vec3) (vals : List Float) (number : Float) (k : ℕ) (w : Worked m g.order p vals number k) (h : k < n) where
     abbrev x : ℕ
     x = get_or g.order k 0
 
@@ -194,9 +202,10 @@ module _ (m : Record) (g : Graph) (t : Tag) (says : OrdersAs m t g) where
                 let r : get_or (get_or g.inputs x []) q Past ≡ Past = entry q hq ∙ ap (settled m) (want_past places q (omega arith)) in
                 past q (omega arith) ∙ sym (ap (input_of vals) r)
 
-    pub worked-more : (a b c v : Float) → a ≡ read 0 → b ≡ read 1 → c ≡ read 2 → v ≡ compute (get_or m.components x no_entry).component p a b c → Worked m g.order p (set vals x v) (k + 1)
+    worked-more : (a b c v : Float) → a ≡ read 0 → b ≡ read 1 → c ≡ read 2 → v ≡ compute (get_or m.components x no_entry).component p a b c → Worked m g.order p (set vals x v) v (k + 1)
     worked-more a b c v ea eb ec e = record {
       vals_length = length-set vals x v ∙ w.vals_length;
+      last = λ i q. let same : i ≡ k = omega arith in sym (ap (λ (z : ℕ). get_or (set vals x v) (get_or g.order z 0) nan) same ∙ get_or-set_same vals x v nan (omega (arith, w.vals_length, small k h)));
       right = λ i j. ⊎_elim (old i) (new i) (Memᴰ.append_cases (take k g.order) (subst (λ (l : List ℕ). i ∈ l) (rw add-one (take-suc g.order k 0 (omega (arith, room)))) j));
     }
       where
@@ -208,13 +217,24 @@ module _ (m : Record) (g : Graph) (t : Tag) (says : OrdersAs m t g) where
             let q : i ≡ x = Memᴰ.eq_of_singleton j in
             subst (λ (z : ℕ). Number (view m) p (tag_at m z) (get_or (set vals x v) z nan)) (sym q) (subst (Number (view m) p (tag_at m x)) (sym (get_or-set_same vals x v nan (omega (arith, w.vals_length, small k h)))) (next-number v (e ∙ three (compute (get_or m.components x no_entry).component p) ea eb ec)))
 
+  -- the same at a position of the order's slice
+  pub worked-next : {xs : List ℕ} → xs ≡ positions_of g → (p : Vec3) (vals : List Float) (number : Float) (k : ℕ) → Worked m g.order p vals number k → k < length xs → (a b c v : Float)
+      → a ≡ input_of vals (get_or (get_or g.inputs (get_or xs k 0) []) 0 Past) → b ≡ input_of vals (get_or (get_or g.inputs (get_or xs k 0) []) 1 Past) → c ≡ input_of vals (get_or (get_or g.inputs (get_or xs k 0) []) 2 Past)
+      → v ≡ compute (get_or m.components (get_or xs k 0) no_entry).component p a b c → Worked m g.order p (set vals (get_or xs k 0) v) v (k + 1)
+  worked-next e p vals last k w h a b c v =
+      let (lt, same) = at_hand e k h in
+      subst
+      (λ (y : ℕ). a ≡ input_of vals (get_or (get_or g.inputs y []) 0 Past) → b ≡ input_of vals (get_or (get_or g.inputs y []) 1 Past) → c ≡ input_of vals (get_or (get_or g.inputs y []) 2 Past)
+      → v ≡ compute (get_or m.components y no_entry).component p a b c → Worked m g.order p (set vals y v) v (k + 1))
+      (sym same) (worked-more p vals last k w lt a b c v)
+
   tags-length : length (map (tag_at m) (take n g.order)) ≡ n
   tags-length = length-map (take n g.order) (tag_at m) ∙ length-take-le n g.order room
 
   ahead-length : length shaped.order.last.0 + 1 ≡ n
   ahead-length = sym (length-append shaped.order.last.0 (t ∷ [])) ∙ ap length (sym shaped.order.last.1) ∙ tags-length
 
-  pub some_of_them : 1 ≤ n
+  some_of_them : 1 ≤ n
   some_of_them = omega (arith, ahead-length)
 
   last_tag : tag_at m (get_or g.order (n - 1) 0) ≡ t
@@ -225,9 +245,11 @@ module _ (m : Record) (g : Graph) (t : Tag) (says : OrdersAs m t g) where
       ∙ ap₂ (λ (l : List Tag) (i : ℕ). get_or l i (tag_at m 0)) shaped.order.last.1 z
       ∙ last_of (tag_at m 0) t shaped.order.last.0
 
-  pub worked_end : (p : Vec3) (vals : List Float) (k : ℕ) → Worked m g.order p vals k → k ≡ n → Number (view m) p t (get_or vals (get_or g.order (n - 1) 0) nan)
-  worked_end p vals k w e = subst (λ (a : Tag). Number (view m) p a (get_or vals (get_or g.order (n - 1) 0) nan)) last_tag
-      (w.right (get_or g.order (n - 1) 0) (subst (λ (z : ℕ). get_or g.order (n - 1) 0 ∈ take z g.order) (sym e) (take_at g.order n (n - 1) (omega (arith, some_of_them)) room)))
+  pub worked_end : (p : Vec3) (vals : List Float) (number : Float) (k : ℕ) → Worked m g.order p vals number k → k ≡ n → Number (view m) p t number
+  worked_end p vals v k w e =
+      let last : v ≡ get_or vals (get_or g.order (n - 1) 0) nan = w.last (n - 1) (omega (arith, some_of_them)) in
+      subst (Number (view m) p t) (sym last) (subst (λ (a : Tag). Number (view m) p a (get_or vals (get_or g.order (n - 1) 0) nan)) last_tag
+      (w.right (get_or g.order (n - 1) 0) (subst (λ (z : ℕ). get_or g.order (n - 1) 0 ∈ take z g.order) (sym e) (take_at g.order n (n - 1) (omega (arith, some_of_them)) room))))
 
   -- ---- the reply
 
@@ -241,9 +263,8 @@ module _ (m : Record) (g : Graph) (t : Tag) (says : OrdersAs m t g) where
 handed_from : {m : Model} {t : Tag} {p : Vec3} {n : ℕ} {a : Tag} {i : ℕ} {o : List Tag} → Compiled m t (stopped n a i) o → Evaluated m t p (handed n a i)
 handed_from (refusal r) = refused_by r
 
-pub hands_on : (m : Record) (t : Tag) (p : Vec3) {r : Refusal} → RefusesAs m t r → (a : Result ℕ Refusal) → IsErrAnd a (λ x. x ≡ r) → EvaluatesAs m t p a
-hands_on m t p says (Ok b) h = absurd h
-hands_on m t p {r} says (Err x) h = subst (λ (z : Refusal). EvaluatesAs m t p (Err z)) (sym h) (record { fitting = λ s. handed_from (says.fitting s); unfit = λ s. ap reply (says.unfit s) })
+pub hands_on : (m : Record) (t : Tag) (p : Vec3) {r : Refusal} → RefusesAs m t r → EvaluatesAs m t p (Err r)
+hands_on m t p says = record { fitting = λ s. handed_from (says.fitting s); unfit = λ s. ap reply (says.unfit s) }
   where
     reply : Answer → Reply
     reply (refused n a i) = handed n a i

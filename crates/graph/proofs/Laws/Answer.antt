@@ -1,5 +1,5 @@
 -- What compile answers, from what its helpers found. Assumes nothing.
-use Prim.Native.Nat.{ℕ, zero, suc, ◌+◌, ◌-◌, ◌*◌, ◌/◌, ◌%◌, ◌≤◌, ◌<◌, min}
+use Prim.Native.Nat.{ℕ, suc, ◌-◌, ◌≤◌, ◌<◌, min}
 use native.Mathlib.Omega.{arith}
 use native.Mathlib.Decide.{dec_lt}
 use mathlib.Core.Path.{◌≡◌, refl, sym, ap, ap₂, subst, ◌∙◌}
@@ -13,6 +13,7 @@ use lib.Dec.{T, ltb}
 use lib.ListN.{length, get_or, take, drop, replicate, get_or-map, length-append, length-drop, length-replicate}
 use lib.Seq.{get_or-take, length-take-le, take_all, take_at}
 use borrow.Author.Tests.{lt-ltb, ltb-true}
+use Rattle.std.specs.Option.{option_map, ok_or}
 use Rattle.std.specs.Prelude.{Option as Maybe, Some, None, Result, Ok, Err, IsErrAnd}
 use Rattle.tag.specs.Tags.{Tag, before, overlong, empty}
 use Rattle.tag.specs.View.{bytes_of}
@@ -30,14 +31,16 @@ use Rattle.held.specs.Search.{position}
 use Rattle.model.proofs.Laws.Bool.{T→true, true→T}
 use Rattle.held.proofs.Laws.Rows.{no_entry, no_list, rows_at}
 use Rattle.held.proofs.Laws.Standing.{Standing, standing, passes-valid}
-use Rattle.lacking.specs.declared.least.Shown.{Shown}
+use Rattle.tag.specs.declared.Tag.{Tag as Label}
+use Rattle.lacking.specs.declared.least.Gap.{Gap}
 use Rattle.graph.specs.declared.computation_graph.Graph.{Graph}
 use Rattle.nodes.specs.declared.Wire.{Wire as Edge}
 use Rattle.nodes.specs.declared.Wire.TheVariants.{Past}
 use Rattle.nodes.specs.Nodes.{LaysOut, Ordered, ◌∈◌, Circular, IsOrder, inputs_of, IsReach, Marks, wires_of, filled_of, all_filled, whole_of}
-use Rattle.resolving.specs.Slots.{look, place_want, want_of, node_of, NodeOf, settled, slots, Resolved, owner_of}
+use Rattle.resolving.specs.declared.slots.ListWires.{ListWires}
+use Rattle.resolving.specs.Slots.{place_want, node_of, NodeOf, settled, Resolved, owner_of}
 use Rattle.graph.specs.Wiring.{Wired}
-use Rattle.lacking.specs.Least.{marked_at, LeastIs, LeastOf, AbsentShown, GapShown}
+use Rattle.lacking.specs.Least.{marked_at, LeastIs, LeastOf, Shows, own, placed, AbsentShown, GapShown, gap_of}
 use Rattle.graph.specs.Compile.{tag_at, positions_of, CompilesAs, Filled, Placing, Formed}
 use Rattle.nodes.proofs.Laws.Order.{laid-length, order-acyclic}
 use Rattle.nodes.proofs.Laws.Wires.{up_to, length_up_to, mem_up_to, to_none, each_filled}
@@ -45,8 +48,7 @@ use Rattle.resolving.proofs.Laws.Node.{name_of, Seat, component_at, list_at, now
 use Rattle.resolving.proofs.Laws.Places.{want_names, names_want, gap_want}
 use Rattle.graph.proofs.Laws.Names.{settled_row, settled_at, in_settled, Drawn, node-of, wired-node, reach_down, reach_up, cyclic_down, cyclic_up, order_up}
 use Rattle.resolving.proofs.Laws.Slots.{owned_by, listed_at, inputs_short, inputs_at, tag_of, in_table}
-use Rattle.graph.proofs.Laws.Drawing.{drawn}
-use Rattle.lacking.proofs.Laws.Least.{gap_there, there_gap}
+use Rattle.graph.proofs.Laws.Drawing.{wired_front, drawn}
 
 -- ---- what is copied
 
@@ -64,6 +66,21 @@ filled xs new n e f = record { r_length = size; same = by (dec_lt 64 (length xs)
         take_all (length xs) (new ++ drop n (replicate 64 0)) (omega (arith, size)) ∙ ap (λ (j : ℕ). new ++ drop j (replicate 64 0)) k ∙ append-nil new ∙ f ∙ ap (λ (j : ℕ). take j xs) k
     by (no h) = let k : n ≡ length xs = e ∙ min-eq_left (omega arith) in
         ap (λ (j : ℕ). take j (new ++ drop n (replicate 64 0))) (sym k) ∙ take_at new (drop n (replicate 64 0)) n front ∙ f ∙ ap (λ (j : ℕ). take j xs) k ∙ take_all (length xs) xs (omega arith) ∙ sym (take_all 64 xs (omega arith))
+
+-- ---- the first gap of a list
+
+gap_there : (l : List Place) (k : ℕ) {i : ℕ} → gap k l ≡ some i → Memᴰ none l
+unfolding gap
+gap_there [] k e = absurd (let z : ◌≡◌ {A = ℕ} 0 1 = cc in let w : ⊥ = omega arith in w)
+gap_there (none ∷ l) k e = Memᴰ.head refl
+gap_there (some a ∷ l) k e = Memᴰ.tail (gap_there l (suc k) e)
+
+there_gap : (l : List Place) (k : ℕ) → Memᴰ none l → (i : ℕ) × (gap k l ≡ some i)
+unfolding gap
+there_gap [] k h = elim h [ ]
+there_gap (none ∷ l) k h = (k, refl)
+there_gap (some a ∷ l) k (Memᴰ.head e) = absurd (let z : ◌≡◌ {A = ℕ} 0 1 = cc in let w : ⊥ = omega arith in w)
+there_gap (some a ∷ l) k (Memᴰ.tail h) = there_gap l (suc k) h
 
 -- ---- a refusal
 
@@ -83,6 +100,12 @@ module _ (m : Record) (t : Tag) where
   pub too_long : (a : Result Graph Refusal) → IsErrAnd a (λ x. refusal_of x ≡ refused 1 empty 0) → passes m ≡ true → overlong t ≡ true → CompilesAs m t a
   too_long (Ok g) h p e = absurd h
   too_long (Err x) h p e = stops p (long (passes-valid m p) (true→T (overlong t) e)) x h
+
+  -- handed on by `?`, where `ok_or` had nothing
+  pub unmade : {n i : ℕ} {u : Tag} {A : Type 0} → passes m ≡ true → Refuses (view m) t n u i → (o : Maybe A) (d : Refusal) {e : Refusal} → Err e ≡ ok_or o d → refusal_of d ≡ refused n u i → (a : Result Graph Refusal) → IsErrAnd a (λ x. x ≡ e) → CompilesAs m t a
+  unmade p f o d h q (Ok g) k = absurd k
+  unmade p f None d {e} h q (Err x) k = let same : e ≡ d = grind arith in stops p f x (ap refusal_of (k ∙ same) ∙ q)
+  unmade p f (Some y) d h q (Err x) k = absurd (grind arith)
 
 -- ---- the target's form, where 7 and 1 let it pass
 
@@ -107,7 +130,7 @@ module _ (m : Record) (pass : passes m ≡ true) (t : Tag) (size : overlong t �
         (λ c. Memᴰ.not-nil (subst (λ (l : List Place). Memᴰ (some c.next) l) (node-none m fit t nowhere-at) (subst (λ (z : Tag). Wire (view m) z c.next) (alone c.tag c.reached) c.wire)))
         ((here, node-absent m fit t (omega arith)), λ b h a. true≢false (sym (T→true _ (subst (λ (z : Tag). T (before z t)) (alone b a.0) h)) ∙ before_irrefl t))
 
-  module _ (longs : min m.list_count (length m.lists) ≡ min m.list_count 128) (found : List (List Edge)) (r : Resolved no_list m found) (n : ℕ) (live : n ≡ min m.list_count 128) (w : List (List Edge)) (g : Wired found n w) (small : node_of m t < 192) where
+  module _ (longs : min m.list_count (length m.lists) ≡ min m.list_count 128) (found : List ListWires) (r : Resolved no_list m found) (n : ℕ) (live : n ≡ min m.list_count 128) (w : List (List Edge)) (g : Wired found n w) (small : node_of m t < 192) where
     d : Drawn m w
     d = drawn m pass longs found r n live w g
 
@@ -152,64 +175,45 @@ module _ (m : Record) (pass : passes m ≡ true) (t : Tag) (size : overlong t �
 
       -- ---- 12
 
-      shown-absent : (a : Tag) (i : ℕ) → AbsentShown no_list m found seen (slots m) a i → Absent (view m) t a
-      shown-absent a i h = (go (h.slot % 4) h.names, node-absent m fit a h.absent)
+      shown-absent : (a : Tag) → AbsentShown no_list m found seen a → Absent (view m) t a
+      shown-absent a h = (go h.shows, node-absent m fit a h.absent)
         where
-          l : ℕ
-          l = h.slot / 4
+          to : Reach (view m) t (tag_of m pass longs found r h.list)
+          to = list-reached h.list h.below h.marked
 
-          l_live : l < min m.list_count 128
-          l_live = let b : h.slot < min m.list_count 128 * 4 = h.below in omega arith
+          go : Shows (get_or m.lists h.list no_list) a → Reach (view m) t a
+          go (own e) = subst (Reach (view m) t) e to
+          go (placed p hp e) = along to (subst (λ (z : List Place). Memᴰ (some a) z) (sym (inputs_at m pass longs found r (tag_of m pass longs found r h.list) h.list (listed_at m pass longs found r h.list h.below)))
+              (want_names (rows place_of (get_or m.lists h.list no_list).count (get_or m.lists h.list no_list).places) p e))
 
-          to : Reach (view m) t (tag_of m pass longs found r l)
-          to = list-reached l l_live h.marked
+      -- a marked list shows it
+      show : (a b : Tag) (k : Kept b) → Shows (get_or m.lists k.at no_list) a → 64 ≤ node_of m a → AbsentShown no_list m found seen a
+      show a b k s h = record { list = k.at; below = k.within; marked = k.marked; shows = s; absent = h }
 
-          go : (q : ℕ) → want_of (get_or m.lists l no_list) q ≡ look a → Reach (view m) t a
-          go zero e = let f : tag_of m pass longs found r l ≡ a = cc in subst (Reach (view m) t) f to
-          go (suc p) e = along to (subst (λ (z : List Place). Memᴰ (some a) z) (sym (inputs_at m pass longs found r (tag_of m pass longs found r l) l (listed_at m pass longs found r l l_live)))
-              (want_names (rows place_of (get_or m.lists l no_list).count (get_or m.lists l no_list).places) p e))
-
-      -- slot q of a marked list
-      show : (a b : Tag) (k : Kept b) (q : ℕ) → q < 4 → want_of (get_or m.lists k.at no_list) q ≡ look a → 64 ≤ node_of m a → AbsentShown no_list m found seen (slots m) a 0
-      show a b k q hq e h = record {
-        slot = k.at * 4 + q;
-        below = omega (arith, k.within);
-        marked = subst (λ (z : ℕ). marked_at seen (owner_of found z) ≡ true) (sym y) k.marked;
-        names = ap₂ (λ (u v : ℕ). want_of (get_or m.lists u no_list) v) y z ∙ e;
-        absent = h;
-        index = refl;
-      }
-        where
-          y : (k.at * 4 + q) / 4 ≡ k.at
-          y = omega arith
-
-          z : (k.at * 4 + q) % 4 ≡ q
-          z = omega arith
-
-      absent-shown : (a : Tag) → Absent (view m) t a → AbsentShown no_list m found seen (slots m) a 0
+      absent-shown : (a : Tag) → Absent (view m) t a → AbsentShown no_list m found seen a
       absent-shown a (q, n) = go q (absent-node m fit a n)
         where
-          go : {b : Tag} → Reach (view m) t b → 64 ≤ node_of m b → AbsentShown no_list m found seen (slots m) b 0
-          go here h = own (seat m t)
+          go : {b : Tag} → Reach (view m) t b → 64 ≤ node_of m b → AbsentShown no_list m found seen b
+          go here h = mine (seat m t)
             where
-              own : Seat m t → AbsentShown no_list m found seen (slots m) t 0
-              own (component_at i e f) = absurd (let z : ⊥ = omega (arith, f, (entry_row m t i e).below, fit.few) in z)
-              own (list_at l x e f) = let k = kept_at t here l e in show t t k 0 (omega arith) (ap look k.tag) h
-              own (nowhere x e f) = absurd (let z : ⊥ = omega (arith, f) in z)
+              mine : Seat m t → AbsentShown no_list m found seen t
+              mine (component_at i e f) = absurd (let z : ⊥ = omega (arith, f, (entry_row m t i e).below, fit.few) in z)
+              mine (list_at l x e f) = let k = kept_at t here l e in show t t k (own k.tag) h
+              mine (nowhere x e f) = absurd (let z : ⊥ = omega (arith, f) in z)
           go {b} (along {a = c} p v) h =
               let k = kept c p (some b) v in
               let (i, lt, e) = names_want (inputs (view m) c) v in
-              show b c k (suc i) (omega (arith, inputs_short m pass c)) (ap (λ (z : List Place). place_want z i) (sym (inputs_at m pass longs found r c k.at k.stands)) ∙ e) h
+              show b c k (placed i (omega (arith, inputs_short m pass c)) (ap (λ (z : List Place). place_want z i) (sym (inputs_at m pass longs found r c k.at k.stands)) ∙ e)) h
 
       -- ---- 13
 
-      shown_gap : (a : Tag) (i : ℕ) → GapShown no_list m found seen (min m.list_count 128) a i → Gapped (view m) t a × (gap 0 (inputs (view m) a) ≡ some i)
+      shown_gap : (a : Tag) (i : ℕ) → GapShown no_list m found seen (a, i) → Gapped (view m) t a × (gap 0 (inputs (view m) a) ≡ some i)
       shown_gap a i h =
           let f : tag_of m pass longs found r h.list ≡ a = h.tag in
           let e : gap 0 (inputs (view m) a) ≡ some i = ap (gap 0) (inputs_at m pass longs found r a h.list (subst (λ (z : Tag). position z 0 (lists_of m) ≡ Some h.list) f (listed_at m pass longs found r h.list h.below))) ∙ h.gap in
           ((subst (Reach (view m) t) f (list-reached h.list h.below h.marked), gap_there (inputs (view m) a) 0 e), e)
 
-      gap_shown : (a : Tag) → Gapped (view m) t a → (i : ℕ) × GapShown no_list m found seen (min m.list_count 128) a i
+      gap_shown : (a : Tag) → Gapped (view m) t a → (i : ℕ) × GapShown no_list m found seen (a, i)
       gap_shown a (q, h) =
           let k = kept a q none h in
           let (i, e) = there_gap (inputs (view m) a) 0 h in
@@ -259,20 +263,20 @@ module _ (m : Record) (pass : passes m ≡ true) (t : Tag) (size : overlong t �
         acyclic : ¬ Cyclic (view m) t
         acyclic c = order-acyclic (inputs_of w) (node_of m t) xs o (cyclic_up d t small c)
 
-        pub says-absent : (b : Shown) → LeastIs (AbsentShown no_list m found seen (slots m)) b → Refuses (view m) t 12 (bytes_of b.tag) 0
-        says-absent b l = absent sound short acyclic (shown-absent _ _ l.found, λ a h n. true≢false (sym (T→true _ h) ∙ l.least a 0 (absent-shown a n)))
+        pub says-absent : (b : Label) → LeastIs (λ a. a) (AbsentShown no_list m found seen) (bytes_of b) → Refuses (view m) t 12 (bytes_of b) 0
+        says-absent b l = absent sound short acyclic (shown-absent _ l.found, λ a h n. true≢false (sym (T→true _ h) ∙ l.least a (absent-shown a n)))
 
-        module _ (none-absent : LeastOf (AbsentShown no_list m found seen (slots m)) None) where
+        module _ (none-absent : LeastOf (λ a. a) (AbsentShown no_list m found seen) None) where
           pub absents_none : (a : Tag) → ¬ Absent (view m) t a
-          absents_none a n = none-absent a 0 (absent-shown a n)
+          absents_none a n = none-absent a (absent-shown a n)
 
-          pub says-gapped : (c : Shown) → LeastIs (GapShown no_list m found seen (min m.list_count 128)) c → Refuses (view m) t 13 (bytes_of c.tag) c.index
+          pub says-gapped : (c : Gap) → LeastIs (λ g. g.0) (GapShown no_list m found seen) (gap_of c) → Refuses (view m) t 13 (bytes_of c.tag) c.index
           says-gapped c l =
               let (g, f) = shown_gap _ _ l.found in
-              gapped sound short acyclic absents_none (g, λ a h n. let (i, s) = gap_shown a n in true≢false (sym (T→true _ h) ∙ l.least a i s)) f
+              gapped sound short acyclic absents_none (g, λ a h n. let (i, s) = gap_shown a n in true≢false (sym (T→true _ h) ∙ l.least (a, i) s)) f
 
-          pub gaps_none : LeastOf (GapShown no_list m found seen (min m.list_count 128)) None → (a : Tag) → ¬ Gapped (view m) t a
-          gaps_none e a n = let (i, s) = gap_shown a n in e a i s
+          pub gaps_none : LeastOf (λ g. g.0) (GapShown no_list m found seen) None → (a : Tag) → ¬ Gapped (view m) t a
+          gaps_none e a n = let (i, s) = gap_shown a n in e (a, i) s
 
       -- ---- an order, where nothing is absent and nothing is gapped
 
@@ -330,13 +334,16 @@ module _ (m : Record) (pass : passes m ≡ true) (t : Tag) (size : overlong t �
                 ap (λ (l : List Edge). get_or l p Past) (entry x (in_order x j).0 ∙ d.wires x (reach_down d t small x (o.only x j)).0) ∙ settled_at m (inputs (view m) (name_of m x)) p hp ∙ ap (λ (z : Tag). settled m (place_want (inputs (view m) z) p)) (sym (entry_tag x j));
           }
 
--- ---- a target with a node, its slots resolved, its wires drawn and its reach laid out
+-- ---- a target with a node, its lists resolved, its wires drawn and its reach laid out
 
-module _ (m : Record) (t : Tag) (pass : passes m ≡ true) (size : overlong t ≡ false) {found : List (List Edge)} (r : Resolved no_list m found)
-    {live : List InputList} (is_live : live ≡ take m.list_count m.lists) (bound : length live ≡ min m.list_count 128) {w : List (List Edge)} (g : Wired found (length live) w)
+module _ (m : Record) (t : Tag) (pass : passes m ≡ true) (size : overlong t ≡ false) {found : List ListWires} (r : Resolved no_list m found)
+    {live : List InputList} (is_live : live ≡ take m.list_count m.lists) (bound : length live ≡ min m.list_count 128) {w : List (List Edge)} (cut : Wired (take (length live) found) (length (take (length live) found)) w)
     {o : Maybe ℕ} {x : ℕ} (at : o ≡ Some x) (node : NodeOf m t o) {reach : List ℕ} {order : Maybe (List ℕ)} {whole : Bool} (laid : x < 192 → LaysOut w x reach order whole) where
   longs : min m.list_count (length m.lists) ≡ min m.list_count 128
   longs = in_table m.lists m.list_count is_live bound
+
+  g : Wired found (length live) w
+  g = wired_front found (length live) (omega (arith, bound, r.found-length)) w cut
 
   its_node : NodeOf m t (Some x)
   its_node = subst (NodeOf m t) at node
@@ -365,7 +372,7 @@ module _ (m : Record) (t : Tag) (pass : passes m ≡ true) (size : overlong t �
 
 -- ---- the same of a form
 
-module _ (m : Record) (t : Tag) (found w : List (List Edge)) (xs : List ℕ) (whole : Bool) (seen : List Bool) (f : Formed no_list m t found w xs whole seen) where
+module _ (m : Record) (t : Tag) (found : List ListWires) (w : List (List Edge)) (xs : List ℕ) (whole : Bool) (seen : List Bool) (f : Formed no_list m t found w xs whole seen) where
   placing : ((a : Tag) → ¬ Absent (view m) t a) → ((a : Tag) → ¬ Gapped (view m) t a) → (g : Graph) → Placing xs w g → CompilesAs m t (Ok g)
   placing present assigned = says-ordered m f.fits t f.short f.live found f.resolved (min m.list_count 128) refl w f.wires f.node f.reach seen f.laid.reached f.marked xs f.laid.laid present assigned
 
@@ -374,21 +381,27 @@ module _ (m : Record) (t : Tag) (found w : List (List Edge)) (xs : List ℕ) (wh
       (whole_present m f.fits t f.short f.live found f.resolved (min m.list_count 128) refl w f.wires f.node f.reach seen f.laid.reached f.marked (f.laid.test e))
       (whole_assigned m f.fits t f.short f.live found f.resolved (min m.list_count 128) refl w f.wires f.node f.reach seen f.laid.reached f.marked (f.laid.test e))
 
-  module _ {a : Maybe Shown} (least : LeastOf (AbsentShown no_list m found seen (slots m)) a) where
-    pub formed_absent : (b : Shown) → a ≡ Some b → (r : Refusal) → refusal_of r ≡ refused 12 (bytes_of b.tag) 0 → CompilesAs m t (Err r)
+  abbrev AbsentLeast : Maybe Label → Type 0
+  AbsentLeast a = LeastOf (λ b. b) (AbsentShown no_list m found seen) (option_map bytes_of a)
+
+  abbrev GapLeast : Maybe Gap → Type 0
+  GapLeast g = LeastOf (λ b. b.0) (GapShown no_list m found seen) (option_map gap_of g)
+
+  module _ {a : Maybe Label} (least : AbsentLeast a) where
+    pub formed_absent : (b : Label) → a ≡ Some b → (r : Refusal) → refusal_of r ≡ refused 12 (bytes_of b) 0 → CompilesAs m t (Err r)
     formed_absent b e = stops m t f.fits
-        (says-absent m f.fits t f.short f.live found f.resolved (min m.list_count 128) refl w f.wires f.node f.reach seen f.laid.reached f.marked xs f.laid.laid b (subst (LeastOf (AbsentShown no_list m found seen (slots m))) e least))
+        (says-absent m f.fits t f.short f.live found f.resolved (min m.list_count 128) refl w f.wires f.node f.reach seen f.laid.reached f.marked xs f.laid.laid b (subst AbsentLeast e least))
 
     module _ (present : a ≡ None) where
-      none-absent : LeastOf (AbsentShown no_list m found seen (slots m)) None
-      none-absent = subst (LeastOf (AbsentShown no_list m found seen (slots m))) present least
+      none-absent : AbsentLeast None
+      none-absent = subst AbsentLeast present least
 
-      module _ {g : Maybe Shown} (lowest : LeastOf (GapShown no_list m found seen (min m.list_count 128)) g) where
-        pub formed_gapped : (c : Shown) → g ≡ Some c → (r : Refusal) → refusal_of r ≡ refused 13 (bytes_of c.tag) c.index → CompilesAs m t (Err r)
+      module _ {g : Maybe Gap} (lowest : GapLeast g) where
+        pub formed_gapped : (c : Gap) → g ≡ Some c → (r : Refusal) → refusal_of r ≡ refused 13 (bytes_of c.tag) c.index → CompilesAs m t (Err r)
         formed_gapped c e = stops m t f.fits
-            (says-gapped m f.fits t f.short f.live found f.resolved (min m.list_count 128) refl w f.wires f.node f.reach seen f.laid.reached f.marked xs f.laid.laid none-absent c (subst (LeastOf (GapShown no_list m found seen (min m.list_count 128))) e lowest))
+            (says-gapped m f.fits t f.short f.live found f.resolved (min m.list_count 128) refl w f.wires f.node f.reach seen f.laid.reached f.marked xs f.laid.laid none-absent c (subst GapLeast e lowest))
 
         pub formed_full : g ≡ None → (o : Graph) → Placing xs w o → CompilesAs m t (Ok o)
         formed_full e = placing
             (absents_none m f.fits t f.short f.live found f.resolved (min m.list_count 128) refl w f.wires f.node f.reach seen f.laid.reached f.marked xs f.laid.laid none-absent)
-            (gaps_none m f.fits t f.short f.live found f.resolved (min m.list_count 128) refl w f.wires f.node f.reach seen f.laid.reached f.marked xs f.laid.laid none-absent (subst (LeastOf (GapShown no_list m found seen (min m.list_count 128))) e lowest))
+            (gaps_none m f.fits t f.short f.live found f.resolved (min m.list_count 128) refl w f.wires f.node f.reach seen f.laid.reached f.marked xs f.laid.laid none-absent (subst GapLeast e lowest))

@@ -1,237 +1,187 @@
--- Taking tags in, one after another, leaves the least of what the lists show. Assumes nothing.
-use Prim.Native.Nat.{ℕ, zero, suc, ◌+◌, ◌/◌, ◌%◌, ◌≤◌, ◌<◌}
+-- The least of what the lists show, from the least of a list of tags. Assumes nothing.
+use Prim.Native.Nat.{ℕ, zero, suc, ◌<◌}
 use native.Mathlib.Omega.{arith}
-use native.Mathlib.Decide.{ℕ_discrete, dec_lt}
-use mathlib.Core.Path.{◌≡◌, refl, sym, ap, subst, ◌∙◌}
-use mathlib.Core.Logic.{◌≢◌, ◌⊎◌, inl, inr, ⊎_elim}
+use mathlib.Core.Path.{◌≡◌, refl, sym, ap, ap₂, subst, ◌∙◌}
+use mathlib.Core.Logic.{◌⊎◌, inl, inr, ⊎_elim}
 use mathlib.Core.Bool.{Bool, true, false, cond, true≢false}
+use mathlib.Core.List.Memᴰ
 use mathlib.Core.List.{List, [], ◌∷◌, Memᴰ}
-use mathlib.Core.Option.{none, some}
-use lib.Dec.{ltb}
 use lib.ListN.{length, get_or}
-use borrow.Author.Tests.{ltb-true, ltb-false, lt-ltb, le-ltb}
-use Rattle.std.specs.Prelude.{Option, Some, None}
-use Rattle.std.specs.Option.{MatchOption}
-use Rattle.std.specs.List.{AllWithin, HoldsAt}
+use denote.Param.Members.{Mut}
+use denote.Ref.{Bor}
+use Rattle.std.specs.Prelude.{Option as Maybe, Some, None}
+use Rattle.std.specs.Fn.{CalledAt}
+use Rattle.std.specs.Iterator.Runs.{Run, WholeRun, AnyItem, CallKeepsClosure, NoKeyBeyond, YieldsRun}
+use Rattle.std.specs.Iterator.{DrainsIf}
+use Rattle.std.specs.Option.{IfSome, IsSomeAnd, MatchOption}
+use Rattle.std.specs.List.{filter, filter_map, cons_option, zip, fold, slice_get}
+use Rattle.std.proofs.Common.{Less, Equal, Greater, Ordering, map-id}
+use Rattle.std.specs.Ordering.{nat_cmp, min_by_ordering, ordering_reverse, is_lt, on}
+use Rattle.std.specs.Cmp.Lexicographic.{slice_cmp}
+use Rattle.std.proofs.lemmas.Cmp.{nat_list_cmp_total}
+use Rattle.std.proofs.lemmas.Slice.Zip.{length-zip, get_or-zip}
+use Rattle.std.proofs.lemmas.Iterator.{YieldsList, items_from_drains}
 use Rattle.tag.specs.Tags.{Tag, before}
 use Rattle.tag.specs.View.{bytes_of}
 use Rattle.tag.specs.declared.Tag.{Tag as Label}
-use Rattle.tag.proofs.Laws.Order.{before_irrefl, before_trans}
-use Rattle.model.specs.declared.implicit_model.Model.{Model as Record}
-use Rattle.model.specs.Model.{Place}
-use Rattle.model.specs.View.{place_of, rows}
-use Rattle.model.specs.Walk.{gap}
-use Rattle.held.proofs.Laws.Rows.{no_list}
-use Rattle.lacking.specs.declared.least.Shown.{Shown}
-use Rattle.resolving.specs.declared.slots.Slot.{Slot}
-use Rattle.resolving.specs.declared.slots.Slot.TheVariants.{Named, Unassigned, Past}
-use Rattle.nodes.specs.declared.Wire.{Wire}
-use Rattle.nodes.specs.declared.Wire.TheVariants.{To, Absent, Past as NoPlace}
-use Rattle.nodes.specs.Nodes.{wire_to}
-use Rattle.resolving.specs.Slots.{Want, look, unassigned, no_place, place_want, want_of, slot_of, node_of, settled, owner_of}
-use Rattle.lacking.specs.Least.{only, take_in, marked_at, component_at, gap_at, absent_turn, GapTurned, unmarked, full, first, LeastOf, AbsentShown, GapShown}
+use Rattle.tag.proofs.Laws.Order.{before_irrefl, before_trans, before_not, less_before}
+use Rattle.nodes.specs.Nodes.{◌∈◌}
+use Rattle.nodes.proofs.Laws.Wires.{place_of, member_at}
+use Rattle.lacking.specs.Least.{LeastIs, LeastOf, least}
 
--- ---- the least
+-- ---- not ahead
 
-ahead : (a b : Tag) → (before a b ≡ true → ⊥) → before a b ≡ false
-ahead a b n = go (before a b) n
+ahead : (s t : Tag) → (before s t ≡ true → ⊥) → before s t ≡ false
+ahead s t n = go (before s t) n
   where
     go : (x : Bool) → (x ≡ true → ⊥) → x ≡ false
     go true n = absurd (n refl)
     go false n = refl
 
+pub not_ahead : (s t u : Tag) → before s t ≡ false → before t u ≡ false → before s u ≡ false
+not_ahead s t u p q = ahead s u (λ r. ⊎_elim (λ e. true≢false (sym r ∙ ap (λ (z : Tag). before z u) e ∙ q)) (λ b. true≢false (sym (before_trans t s u b r) ∙ q)) (before_not s t p))
+
+-- ---- the least of a list
+
+same-least : {A : Type 0} {tag : A → Tag} {S : A → Type 0} (R : A → Type 0) {b : A} → LeastIs tag S b → ((a : A) → S a → R a) → ((a : A) → R a → S a) → LeastIs tag R b
+same-least R g to from = record { found = to _ g.found; least = λ a h. g.least a (from a h) }
+
+abbrev lesser : Label → Label → Label
+lesser s t = min_by_ordering (slice_cmp nat_cmp (bytes_of s) (bytes_of t)) s t
+
 -- from the least of S to the least of S and t
-take-least : {S : Tag → ℕ → Type 0} (R : Tag → ℕ → Type 0) (b : Option Shown) (t : Label) (i : ℕ) → LeastOf S b → ((a : Tag) (k : ℕ) → S a k → R a k) → R (bytes_of t) i
-    → ((a : Tag) (k : ℕ) → R a k → S a k ⊎ (a ≡ bytes_of t)) → LeastOf R (take_in b t i)
-unfolding take_in
-take-least R None t i g grows new only-these = record {
-  found = new;
-  least = λ a k h. ⊎_elim (λ s. absurd (g a k s)) (λ q. ap (λ (z : Tag). before z (bytes_of t)) q ∙ before_irrefl (bytes_of t)) (only-these a k h);
-}
-take-least R (Some b) t i g grows new only-these = go (before (bytes_of t) (bytes_of b.tag)) refl
+take-least : {S : Label → Type 0} (b t : Label) → LeastIs bytes_of S b → LeastIs bytes_of (λ a. S a ⊎ (a ≡ t)) (lesser b t)
+take-least {S} b t g = go (slice_cmp nat_cmp (bytes_of t) (bytes_of b)) refl
   where
-    go : (v : Bool) → before (bytes_of t) (bytes_of b.tag) ≡ v → LeastOf R (cond v (Some (only t i)) (Some b))
-    go true f = record {
-      found = new;
-      least = λ a k h.
+    turned : (o : Ordering) → slice_cmp nat_cmp (bytes_of t) (bytes_of b) ≡ o → LeastIs bytes_of (λ a. S a ⊎ (a ≡ t)) (min_by_ordering (ordering_reverse o) b t) → LeastIs bytes_of (λ a. S a ⊎ (a ≡ t)) (lesser b t)
+    turned o e = subst (λ (x : Ordering). LeastIs bytes_of (λ a. S a ⊎ (a ≡ t)) (min_by_ordering x b t)) (sym (nat_list_cmp_total.antisymm (bytes_of b) (bytes_of t) ∙ ap ordering_reverse e))
+
+    stays : before (bytes_of t) (bytes_of b) ≡ false → LeastIs bytes_of (λ a. S a ⊎ (a ≡ t)) b
+    stays e = record { found = inl g.found; least = λ a h. ⊎_elim (g.least a) (λ q. ap (λ (z : Label). before (bytes_of z) (bytes_of b)) q ∙ e) h }
+
+    go : (o : Ordering) → slice_cmp nat_cmp (bytes_of t) (bytes_of b) ≡ o → LeastIs bytes_of (λ a. S a ⊎ (a ≡ t)) (lesser b t)
+    go Less e = turned Less e (record {
+      found = inr refl;
+      least = λ a h.
           ⊎_elim
-          (λ s. ahead a (bytes_of t) (λ q. true≢false (sym (before_trans a (bytes_of t) (bytes_of b.tag) q f) ∙ g.least a k s)))
-          (λ q. ap (λ (z : Tag). before z (bytes_of t)) q ∙ before_irrefl (bytes_of t))
-          (only-these a k h);
-    }
-    go false f = record {
-      found = grows _ _ g.found;
-      least = λ a k h. ⊎_elim (λ s. g.least a k s) (λ q. ap (λ (z : Tag). before z (bytes_of b.tag)) q ∙ f) (only-these a k h);
-    }
+          (λ s. ahead (bytes_of a) (bytes_of t) (λ q. true≢false (sym (before_trans (bytes_of a) (bytes_of t) (bytes_of b) q (sym (less_before _ _) ∙ ap is_lt e)) ∙ g.least a s)))
+          (λ q. ap (λ (z : Label). before (bytes_of z) (bytes_of t)) q ∙ before_irrefl (bytes_of t))
+          h;
+    })
+    go Equal e = turned Equal e (stays (sym (less_before _ _) ∙ ap is_lt e))
+    go Greater e = turned Greater e (stays (sym (less_before _ _) ∙ ap is_lt e))
 
--- nothing new
-least-same : {S : Tag → ℕ → Type 0} (R : Tag → ℕ → Type 0) (b : Option Shown) → LeastOf S b → ((a : Tag) (k : ℕ) → S a k → R a k) → ((a : Tag) (k : ℕ) → R a k → S a k) → LeastOf R b
-least-same R None g f h = λ a k s. g a k (h a k s)
-least-same R (Some b) g f h = record { found = f _ _ g.found; least = λ a k s. g.least a k (h a k s) }
+fold-least : {S : Label → Type 0} (b : Label) (ts : List Label) → LeastIs bytes_of S b → LeastIs bytes_of (λ a. S a ⊎ (a ∈ ts)) (fold lesser b ts)
+fold-least {S} b [] g = same-least (λ a. S a ⊎ (a ∈ [])) g (λ a s. inl s) (λ a h. ⊎_elim (λ s. s) (λ m. absurd (Memᴰ.not-nil m)) h)
+fold-least {S} b (t ∷ ts) g =
+    same-least (λ a. S a ⊎ (a ∈ t ∷ ts)) (fold-least (lesser b t) ts (take-least b t g))
+    (λ a h. ⊎_elim (λ k. ⊎_elim (λ s. inl s) (λ e. inr (Memᴰ.head e)) k) (λ m. inr (Memᴰ.tail m)) h)
+    (λ a h. ⊎_elim (λ s. inl (inl s)) (λ m. ⊎_elim (λ e. inl (inr e)) (λ k. inr k) (Memᴰ.cases_cons m)) h)
 
--- ---- 12: one slot more
+pub least_of : (ts : List Label) → LeastOf bytes_of (λ a. a ∈ ts) (least ts)
+least_of [] = λ a m. Memᴰ.not-nil m
+least_of (t ∷ ts) =
+    same-least (λ a. a ∈ t ∷ ts) (fold-least {S = λ a. a ≡ t} t ts (record { found = refl; least = λ a e. ap (λ (z : Label). before (bytes_of z) (bytes_of t)) e ∙ before_irrefl (bytes_of t) }))
+    (λ a h. ⊎_elim (λ e. Memᴰ.head e) (λ m. Memᴰ.tail m) h)
+    (λ a m. Memᴰ.cases_cons m)
 
-component_to : (x : ℕ) → component_at (wire_to x) ≡ ltb x 64
-component_to x = go (dec_lt x 192)
-  where
-    go : Dec (x < 192) → component_at (wire_to x) ≡ ltb x 64
-    go (yes h) = simp (lt-ltb x 192 h)
-    go (no n) = simp (le-ltb x 192 (omega arith), le-ltb x 64 (omega arith))
+-- ---- the least of what a run gave, by a key
 
-module _ (m : Record) (found : List (List Wire)) (seen : List Bool) where
-  pub absent-start : LeastOf (AbsentShown no_list m found seen 0) None
-  absent-start a k s = let z : ⊥ = omega (arith, s.below) in z
+at_mem : {A : Type 0} {a : A} (xs : List A) (k : ℕ) → slice_get xs k ≡ Some a → a ∈ xs
+at_mem [] k e = absurd (let z : ◌≡◌ {A = ℕ} 0 1 = cc in let w : ⊥ = omega arith in w)
+at_mem {a = a} (x ∷ xs) zero e = Memᴰ.head (let q : a ≡ x = cc in q)
+at_mem (x ∷ xs) (suc k) e = Memᴰ.tail (at_mem xs k e)
 
-  module _ (j : ℕ) (b : Option Shown) (g : LeastOf (AbsentShown no_list m found seen j) b) (s : Slot) (right : slot_of s ≡ want_of (get_or m.lists (j / 4) no_list) (j % 4))
-      (v : Wire) (comes : v ≡ settled m (want_of (get_or m.lists (j / 4) no_list) (j % 4))) where
-    old : (a : Tag) (k : ℕ) → AbsentShown no_list m found seen j a k → AbsentShown no_list m found seen (j + 1) a k
-    old a k h = record { slot = h.slot; below = omega (arith, h.below); marked = h.marked; names = h.names; absent = h.absent; index = h.index }
+mem_at : {A : Type 0} (xs : List A) {a : A} → a ∈ xs → (k : ℕ) × (slice_get xs k ≡ Some a)
+mem_at [] m = absurd (Memᴰ.not-nil m)
+mem_at (x ∷ xs) m = ⊎_elim (λ e. (0, ap Some (sym e))) (λ k. let (i, e) = mem_at xs k in (suc i, e)) (Memᴰ.cases_cons m)
 
-    abbrev Here : Tag → Type 0
-    Here a = (marked_at seen (owner_of found (j / 4)) ≡ true) × (want_of (get_or m.lists (j / 4) no_list) (j % 4) ≡ look a) × (64 ≤ node_of m a)
+module _ {S A F : Type 0} {steps : S → Maybe A → S → Type 0} {s : S} {all : List A} (tag : A → Label) (g : Mut F (Bor A × Unit {0}) Label) (f : F) (calls : (x : A) (k : Label) (q : F) → CalledAt g f x k q → (q ≡ f) × (k ≡ tag x)) (road : YieldsList steps (λ y. y) s all) where
+  items : (p : Run steps) → p.from ≡ s → p.whole ≡ true → (p.items ≡ all) × ((k : ℕ) → p.at k ≡ slice_get p.items k)
+  unfolding YieldsRun
+  items p from whole =
+      let ((t, yields, ends), at) = p.gave in
+      (sym (map-id p.items) ∙ items_from_drains p.items (subst (λ (u : S). DrainsIf steps (Unit {0}) u p.items) from (t, yields, λ x. ends whole)) road, at)
 
-    split : (a : Tag) (k : ℕ) → AbsentShown no_list m found seen (j + 1) a k → AbsentShown no_list m found seen j a k ⊎ Here a
-    split a k h = by (ℕ_discrete h.slot j)
-      where
-        by : Dec (h.slot ≡ j) → AbsentShown no_list m found seen j a k ⊎ Here a
-        by (yes e) = inr (
-          subst (λ (z : ℕ). marked_at seen (owner_of found (z / 4)) ≡ true) e h.marked,
-          subst (λ (z : ℕ). want_of (get_or m.lists (z / 4) no_list) (z % 4) ≡ look a) e h.names,
-          h.absent,
-        )
-        by (no n) = inl (record { slot = h.slot; below = omega (arith, h.below); marked = h.marked; names = h.names; absent = h.absent; index = h.index })
+  keeps : CallKeepsClosure g f
+  keeps a k q c = (calls a.0.now k q (record { shown = a.0; shows = refl; called = c })).0
 
-    skip : ((a : Tag) → ¬ Here a) → LeastOf (AbsentShown no_list m found seen (j + 1)) b
-    skip n = least-same (AbsentShown no_list m found seen (j + 1)) b g old (λ a k h. ⊎_elim (λ x. x) (λ x. absurd (n a x)) (split a k h))
+  pub least_by_key : (r : Maybe A) → WholeRun steps s (λ p. MatchOption r (p.len ≡ 0) (λ m. AnyItem p (λ x. x ≡ m) × NoKeyBeyond p g f is_lt (on bytes_of (slice_cmp nat_cmp)) m)) → LeastOf (λ a. bytes_of (tag a)) (λ a. a ∈ all) r
+  least_by_key None (p, from, whole, empty) =
+      let (same, at) = items p from whole in
+      λ a m. let (k, h, e) = place_of a all a m in let z : ⊥ = omega (arith, ap length same, p.long, empty, h) in z
+  least_by_key (Some m) (p, from, whole, ((i, below, any), beyond)) =
+      let (same, at) = items p from whole in
+      let (k, here, each) = beyond keeps in
+      record {
+        found = subst (λ (l : List A). m ∈ l) same (member (p.at i) any (at i));
+        least = λ a h. let (j, e) = mem_at all h in behind k here a (subst (λ (o : Maybe A). IfSome o (Behind k)) (at j ∙ ap (λ (l : List A). slice_get l j) same ∙ e) (each j));
+      }
+    where
+      Behind : Label → A → Type 0
+      Behind k x = (j : Label) × CalledAt g f x j f × (is_lt (on bytes_of (slice_cmp nat_cmp) j k) ≡ false)
 
-    number : (a : Tag) → want_of (get_or m.lists (j / 4) no_list) (j % 4) ≡ look a → v ≡ wire_to (node_of m a)
-    number a e = comes ∙ ap (settled m) e
+      member : (o : Maybe A) → IsSomeAnd o (λ x. x ≡ m) → o ≡ slice_get p.items i → m ∈ p.items
+      member None h e = absurd h
+      member (Some x) h e = at_mem p.items i (sym e ∙ ap Some h)
 
-    gap_names : {a : Tag} → unassigned ≡ look a → ⊥
-    gap_names e = let z : ◌≡◌ {A = ℕ} 0 1 = cc in omega arith
+      behind : (k : Label) → CalledAt g f m k f → (a : A) → Behind k a → before (bytes_of (tag a)) (bytes_of (tag m)) ≡ false
+      behind k here a (j, c, e) = ap₂ (λ (u v : Label). before (bytes_of u) (bytes_of v)) (sym (calls a j f c).1) (sym (calls m k f here).1) ∙ sym (less_before _ _) ∙ e
 
-    none_names : {a : Tag} → no_place ≡ look a → ⊥
-    none_names e = let z : ◌≡◌ {A = ℕ} 0 1 = cc in omega arith
+-- ---- what is kept and made of two lists, side by side
 
-    same : {a c : Tag} → look a ≡ look c → a ≡ c
-    same e = cc
+module _ {X Y Z : Type 0} (t : X × Y → Bool) (h : X × Y → Maybe Z) (d : X × Y) where
+  pub record Chosen (xs : List X) (ys : List Y) (z : Z) : Type 0 where
+    pub place : ℕ
+    pub first : place < length xs
+    pub second : place < length ys
+    pub kept : t (get_or xs place d.0, get_or ys place d.1) ≡ true
+    pub gives : h (get_or xs place d.0, get_or ys place d.1) ≡ Some z
 
-    pub absent_more : (mark : Bool) → mark ≡ marked_at seen (owner_of found (j / 4)) → LeastOf (AbsentShown no_list m found seen (j + 1)) (absent_turn b s v mark)
-    absent_more mark em = go s right mark em (component_at v) refl
-      where
-        go : (s : Slot) → slot_of s ≡ want_of (get_or m.lists (j / 4) no_list) (j % 4) → (x : Bool) → x ≡ marked_at seen (owner_of found (j / 4)) → (y : Bool) → component_at v ≡ y
-            → LeastOf (AbsentShown no_list m found seen (j + 1)) (absent_turn b s v x)
-        go Unassigned e x ex y ey = skip (λ a h. gap_names (e ∙ h.1))
-        go Past e x ex y ey = skip (λ a h. none_names (e ∙ h.1))
-        go (Named t) e false ex y ey = skip (λ a h. true≢false (sym h.0 ∙ sym ex))
-        go (Named t) e true ex true ey = rw ey (skip (λ a h. let lt : node_of m a < 64 = ltb-true _ _ (sym (component_to (node_of m a)) ∙ sym (ap component_at (number a h.1)) ∙ ey) in let w : ⊥ = omega (arith, h.2) in w))
-        go (Named t) e true ex false ey =
-            rw ey (take-least (AbsentShown no_list m found seen (j + 1)) b t 0 g old
-            (record { slot = j; below = omega arith; marked = sym ex; names = sym e; absent = ltb-false _ _ (sym (component_to (node_of m (bytes_of t))) ∙ sym (ap component_at (number (bytes_of t) (sym e))) ∙ ey); index = refl })
-            (λ a k h. ⊎_elim (λ x. inl x) (λ x. inr (same (sym x.1 ∙ sym e))) (split a k h)))
+  made : (xs : List (X × Y)) (z : Z) → z ∈ filter_map h xs → (x : X × Y) × (x ∈ xs) × (h x ≡ Some z)
+  made [] z m = absurd (Memᴰ.not-nil m)
+  made (x ∷ xs) z m = go (λ k. let (y, i, e) = made xs z k in (y, Memᴰ.tail i, e)) (h x) refl m
+    where
+      go : (z ∈ filter_map h xs → (y : X × Y) × (y ∈ x ∷ xs) × (h y ≡ Some z)) → (o : Maybe Z) → h x ≡ o → z ∈ cons_option o (filter_map h xs) → (y : X × Y) × (y ∈ x ∷ xs) × (h y ≡ Some z)
+      go later None e k = later k
+      go later (Some w) e k = ⊎_elim (λ q. (x, Memᴰ.head refl, e ∙ ap Some (sym q))) later (Memᴰ.cases_cons k)
 
--- ---- 13: the first gap of a list
+  of_made : (xs : List (X × Y)) {x : X × Y} {z : Z} → x ∈ xs → h x ≡ Some z → z ∈ filter_map h xs
+  of_made [] m e = absurd (Memᴰ.not-nil m)
+  of_made (y ∷ xs) {x} {z} m e = ⊎_elim (λ q. subst (λ (o : Maybe Z). z ∈ cons_option o (filter_map h xs)) (sym (ap h (sym q) ∙ e)) (Memᴰ.head refl)) (λ k. go (h y) (of_made xs k e)) (Memᴰ.cases_cons m)
+    where
+      go : (o : Maybe Z) → z ∈ filter_map h xs → z ∈ cons_option o (filter_map h xs)
+      go None k = k
+      go (Some w) k = Memᴰ.tail k
 
-gap_first : (l : List Place) (k p : ℕ) → place_want l p ≡ unassigned → ((i : ℕ) → i < p → place_want l i ≢ unassigned) → gap k l ≡ some (k + p)
-unfolding gap place_want
-gap_first [] k p e n = absurd (let z : ◌≡◌ {A = ℕ} 0 1 = cc in let w : ⊥ = omega arith in w)
-gap_first (none ∷ l) k zero e n = ap some (omega arith)
-gap_first (some a ∷ l) k zero e n = absurd (let z : ◌≡◌ {A = ℕ} 0 1 = cc in let w : ⊥ = omega arith in w)
-gap_first (none ∷ l) k (suc p) e n = absurd (n 0 (omega arith) refl)
-gap_first (some a ∷ l) k (suc p) e n = gap_first l (suc k) p e (λ i h. n (suc i) (omega arith)) ∙ ap some (omega arith)
+  left : (xs : List (X × Y)) {x : X × Y} → x ∈ filter t xs → (x ∈ xs) × (t x ≡ true)
+  left [] m = absurd (Memᴰ.not-nil m)
+  left (y ∷ xs) {x} m = go (λ k. let (i, e) = left xs k in (Memᴰ.tail i, e)) (t y) refl m
+    where
+      go : (x ∈ filter t xs → (x ∈ y ∷ xs) × (t x ≡ true)) → (b : Bool) → t y ≡ b → x ∈ cond b (y ∷ filter t xs) (filter t xs) → (x ∈ y ∷ xs) × (t x ≡ true)
+      go later false e k = later k
+      go later true e k = ⊎_elim (λ q. (Memᴰ.head q, ap t q ∙ e)) later (Memᴰ.cases_cons k)
 
-gap_none : (l : List Place) (k : ℕ) → ((p : ℕ) → p < length l → place_want l p ≢ unassigned) → gap k l ≡ none
-unfolding gap place_want
-gap_none [] k n = refl
-gap_none (none ∷ l) k n = absurd (n 0 (omega arith) refl)
-gap_none (some a ∷ l) k n = gap_none l (suc k) (λ p h. n (suc p) (omega arith))
+  of_left : (xs : List (X × Y)) {x : X × Y} → x ∈ xs → t x ≡ true → x ∈ filter t xs
+  of_left [] m e = absurd (Memᴰ.not-nil m)
+  of_left (y ∷ xs) {x} m e = ⊎_elim (λ q. subst (λ (b : Bool). x ∈ cond b (y ∷ filter t xs) (filter t xs)) (sym (ap t (sym q) ∙ e)) (Memᴰ.head q)) (λ k. go (t y) (of_left xs k e)) (Memᴰ.cases_cons m)
+    where
+      go : (b : Bool) → x ∈ filter t xs → x ∈ cond b (y ∷ filter t xs) (filter t xs)
+      go false k = k
+      go true k = Memᴰ.tail k
 
-pub gap_there : (l : List Place) (k : ℕ) {i : ℕ} → gap k l ≡ some i → Memᴰ none l
-unfolding gap
-gap_there [] k e = absurd (let z : ◌≡◌ {A = ℕ} 0 1 = cc in let w : ⊥ = omega arith in w)
-gap_there (none ∷ l) k e = Memᴰ.head refl
-gap_there (some a ∷ l) k e = Memᴰ.tail (gap_there l (suc k) e)
+  module _ (xs : List X) (ys : List Y) (z : Z) where
+    pub chosen : z ∈ filter_map h (filter t (zip xs ys)) → Chosen xs ys z
+    chosen m =
+        let (x, i, e) = made (filter t (zip xs ys)) z m in
+        let (k, n) = left (zip xs ys) i in
+        let (p, l, q) = place_of d (zip xs ys) x k in
+        let f : p < length xs = omega (arith, length-zip xs ys) in
+        let g : p < length ys = omega (arith, length-zip xs ys) in
+        let r : x ≡ (get_or xs p d.0, get_or ys p d.1) = q ∙ get_or-zip xs ys p d f g in
+        record { place = p; first = f; second = g; kept = sym (ap t r) ∙ n; gives = sym (ap h r) ∙ e }
 
-pub there_gap : (l : List Place) (k : ℕ) → Memᴰ none l → (i : ℕ) × (gap k l ≡ some i)
-unfolding gap
-there_gap [] k h = elim h [ ]
-there_gap (none ∷ l) k h = (k, refl)
-there_gap (some a ∷ l) k (Memᴰ.head e) = absurd (let z : ◌≡◌ {A = ℕ} 0 1 = cc in let w : ⊥ = omega arith in w)
-there_gap (some a ∷ l) k (Memᴰ.tail h) = there_gap l (suc k) h
-
--- what a search of three places for a gap says
-abbrev pub Searched : List Wire → Option ℕ → Type 0
-Searched places r = MatchOption r (AllWithin (λ e. gap_at e ≡ false) places 0 (length places)) (λ i. (i < length places) × HoldsAt (λ e. gap_at e ≡ true) places i × AllWithin (λ e. gap_at e ≡ false) places 0 i)
-
-module _ (b : Option Shown) (t : Label) (places : List Wire) (mark : Bool) (on : mark ≡ true) (size : length places ≡ 3) where
-  pub gap_found : (p : ℕ) → Searched places (Some p) → GapTurned b t places mark (take_in b t p)
-  gap_found p (h, at, earlier) = first p on (omega (arith, size)) (at NoPlace) (λ i lt. earlier i NoPlace (omega arith) lt)
-
-  pub gap_missing : Searched places None → GapTurned b t places mark b
-  gap_missing never = full on (λ p h. never p NoPlace (omega arith) (omega (arith, size)))
-
--- a fact of each of three wires
-pub three : (P : ℕ → Wire → Type 0) (a b c : Wire) → P 0 a → P 1 b → P 2 c → (p : ℕ) → p < 3 → P p (get_or (a ∷ b ∷ c ∷ []) p NoPlace)
-three P a b c pa pb pc zero h = pa
-three P a b c pa pb pc (suc zero) h = pb
-three P a b c pa pb pc (suc (suc zero)) h = pc
-three P a b c pa pb pc (suc (suc (suc p))) h = absurd (let z : ⊥ = omega arith in z)
-
-to_no_gap : (x : ℕ) → gap_at (wire_to x) ≡ false
-to_no_gap x = go (ltb x 192)
-  where
-    go : (v : Bool) → gap_at (cond v (To x) Absent) ≡ false
-    go true = refl
-    go false = refl
-
-module _ (m : Record) (found : List (List Wire)) (seen : List Bool) where
-  pub gap_start : LeastOf (GapShown no_list m found seen 0) None
-  gap_start a k s = let z : ⊥ = omega (arith, s.below) in z
-
-  module _ (j : ℕ) (b : Option Shown) (g : LeastOf (GapShown no_list m found seen j) b) where
-    abbrev places : List Place
-    places = rows place_of (get_or m.lists j no_list).count (get_or m.lists j no_list).places
-
-    abbrev tag : Label
-    tag = (get_or m.lists j no_list).tag
-
-    module _ (wires : List Wire) (short : length places ≤ 3) (comes : (p : ℕ) → p < 3 → get_or wires p NoPlace ≡ settled m (place_want places p)) where
-      kept : (a : Tag) (k : ℕ) → GapShown no_list m found seen j a k → GapShown no_list m found seen (j + 1) a k
-      kept a k h = record { list = h.list; below = omega (arith, h.below); marked = h.marked; tag = h.tag; gap = h.gap }
-
-      parted : (a : Tag) (k : ℕ) → GapShown no_list m found seen (j + 1) a k → GapShown no_list m found seen j a k ⊎ ((marked_at seen (owner_of found j) ≡ true) × (bytes_of tag ≡ a) × (gap 0 places ≡ some k))
-      parted a k h = by (ℕ_discrete h.list j)
-        where
-          by : Dec (h.list ≡ j) → GapShown no_list m found seen j a k ⊎ ((marked_at seen (owner_of found j) ≡ true) × (bytes_of tag ≡ a) × (gap 0 places ≡ some k))
-          by (yes e) = inr (
-            subst (λ (z : ℕ). marked_at seen (owner_of found z) ≡ true) e h.marked,
-            subst (λ (z : ℕ). bytes_of (get_or m.lists z no_list).tag ≡ a) e h.tag,
-            subst (λ (z : ℕ). gap 0 (rows place_of (get_or m.lists z no_list).count (get_or m.lists z no_list).places) ≡ some k) e h.gap,
-          )
-          by (no n) = inl (record { list = h.list; below = omega (arith, h.below); marked = h.marked; tag = h.tag; gap = h.gap })
-
-      -- a place came to a gap exactly if it is unassigned
-      unassigned_at : (p : ℕ) → p < 3 → gap_at (get_or wires p NoPlace) ≡ true → place_want places p ≡ unassigned
-      unassigned_at p h e = go (place_want places p) refl
-        where
-          go : (w : Want) → place_want places p ≡ w → w ≡ unassigned
-          go (look a) q = absurd (true≢false (sym e ∙ ap gap_at (comes p h ∙ ap (settled m) q) ∙ to_no_gap (node_of m a)))
-          go unassigned q = refl
-          go no_place q = absurd (true≢false (sym e ∙ ap gap_at (comes p h ∙ ap (settled m) q)))
-
-      assigned : (p : ℕ) → p < 3 → gap_at (get_or wires p NoPlace) ≡ false → place_want places p ≢ unassigned
-      assigned p h n e = true≢false (sym (ap gap_at (comes p h ∙ ap (settled m) e)) ∙ n)
-
-      pass : (marked_at seen (owner_of found j) ≡ true → gap 0 places ≡ none) → LeastOf (GapShown no_list m found seen (j + 1)) b
-      pass n = least-same (GapShown no_list m found seen (j + 1)) b g kept (λ a k h. ⊎_elim (λ x. x) (λ x. absurd (never (n x.0) x.2)) (parted a k h))
-        where
-          never : {k : ℕ} → gap 0 places ≡ none → gap 0 places ≡ some k → ⊥
-          never p q = let z : ◌≡◌ {A = ℕ} 0 1 = cc in omega arith
-
-      take : (p : ℕ) → marked_at seen (owner_of found j) ≡ true → gap 0 places ≡ some p → LeastOf (GapShown no_list m found seen (j + 1)) (take_in b tag p)
-      take p x e = take-least (GapShown no_list m found seen (j + 1)) b tag p g kept (record { list = j; below = omega arith; marked = x; tag = refl; gap = e }) (λ a k h. ⊎_elim (λ y. inl y) (λ y. inr (sym y.1)) (parted a k h))
-
-      pub gap_more : (mark : Bool) → mark ≡ marked_at seen (owner_of found j) → (r : Option Shown) → GapTurned b tag wires mark r → LeastOf (GapShown no_list m found seen (j + 1)) r
-      gap_more mark em r (unmarked e) = pass (λ h. absurd (true≢false (sym h ∙ sym em ∙ e)))
-      gap_more mark em r (full e each) = pass (λ h. gap_none places 0 (λ p lt. assigned p (omega arith) (each p (omega arith))))
-      gap_more mark em r (first p e h at earlier) = take p (sym em ∙ e) (gap_first places 0 p (unassigned_at p h at) (λ i lt. assigned i (omega arith) (earlier i lt)) ∙ ap some (omega arith))
+    pub of_chosen : Chosen xs ys z → z ∈ filter_map h (filter t (zip xs ys))
+    of_chosen c =
+        let r : get_or (zip xs ys) c.place d ≡ (get_or xs c.place d.0, get_or ys c.place d.1) = get_or-zip xs ys c.place d c.first c.second in
+        of_made (filter t (zip xs ys)) (of_left (zip xs ys) (member_at d (zip xs ys) c.place (omega (arith, length-zip xs ys, c.first, c.second))) (ap t r ∙ c.kept)) (ap h r ∙ c.gives)

@@ -10,20 +10,21 @@ use lib.Dec.{T, ltb}
 use lib.ListN.{length, get_or}
 use borrow.Author.Tests.{lt-ltb, le-ltb}
 use Rattle.std.specs.Prelude.{Option as Maybe, Some, None}
+use Rattle.std.specs.Option.{MatchOption}
 use Rattle.tag.specs.Tags.{Tag}
 use Rattle.tag.specs.View.{bytes_of}
 use Rattle.model.specs.declared.implicit_model.Model.{Model as Record}
 use Rattle.model.specs.Table.{Table, find, distinct}
 use Rattle.model.specs.Model.{Place, component, list, inputs}
 use Rattle.model.specs.View.{component_of, list_of, components_of, lists_of, view}
-use Rattle.held.specs.Search.{position}
+use Rattle.held.specs.Search.{position, Sought}
 use Rattle.held.proofs.Laws.Rows.{no_entry, no_list}
 use Rattle.model.proofs.Laws.Table.{held-false}
 use Rattle.held.proofs.Laws.Search.{RowAt, row_at, row, position-free}
 use Rattle.held.proofs.Laws.Standing.{Standing}
 use Rattle.model.proofs.Laws.Valid.{none_some}
 use Rattle.held.proofs.Laws.Changes.{find_at, rows_apart}
-use Rattle.resolving.specs.Slots.{node_at, node_of}
+use Rattle.resolving.specs.Slots.{node_at, node_of, NodeOf}
 
 -- ---- a search of a table in which no tag stands twice finds the row that has the tag
 
@@ -56,6 +57,16 @@ module _ (m : Record) where
   pub node_neither : (a : Tag) → position a 0 (components_of m) ≡ None → position a 0 (lists_of m) ≡ None → 192 ≡ node_of m a
   unfolding node_of
   node_neither a e q = sym (ap₂ node_at e q)
+
+  -- the components are searched, then the lists
+  pub either_node : (a : Tag) (f r : Maybe ℕ) {P : Type 0} → Sought (components_of m) 64 a f → MatchOption f P (λ i. r ≡ Some i)
+      → (P → (g : Maybe ℕ) × Sought (lists_of m) 128 a g × MatchOption g (r ≡ None) (λ l. r ≡ Some (64 + l))) → NodeOf m a r
+  either_node a (Some i) r s e lists = subst (NodeOf m a) (sym e) (omega (arith, s.within i refl), node_hit a i (sym s.at))
+  either_node a None r s e lists = go (lists e)
+    where
+      go : (g : Maybe ℕ) × Sought (lists_of m) 128 a g × MatchOption g (r ≡ None) (λ l. r ≡ Some (64 + l)) → NodeOf m a r
+      go (Some l, t, h) = subst (NodeOf m a) (sym h) (omega (arith, t.within l refl), node-list a l (sym s.at) (sym t.at))
+      go (None, t, h) = subst (NodeOf m a) (sym h) (node_neither a (sym s.at) (sym t.at))
 
   -- where a tag stands, and which node that makes it
   pub data Seat (a : Tag) : Type 0 where

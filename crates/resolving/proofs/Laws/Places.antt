@@ -1,8 +1,8 @@
 -- What stands in a list, place by place. Assumes nothing.
-use Prim.Native.Nat.{ℕ, zero, suc, ◌-◌, ◌≤◌, ◌<◌}
+use Prim.Native.Nat.{ℕ, zero, suc, ◌≤◌, ◌<◌}
 use native.Mathlib.Omega.{arith}
+use native.Mathlib.Decide.{dec_lt}
 use mathlib.Core.Path.{◌≡◌, refl, sym, ap, ◌∙◌}
-use mathlib.Core.Logic.{◌≢◌}
 use mathlib.Core.List.{List, [], ◌∷◌, map, Memᴰ}
 use mathlib.Core.Option.{none, some}
 use lib.ListN.{take, length, get_or, length-map, get_or-map}
@@ -14,7 +14,7 @@ use Rattle.model.specs.declared.implicit_model.InputList.{InputList}
 use Rattle.model.specs.Model.{Place}
 use Rattle.model.specs.View.{PlaceRecord, place_of, rows}
 use Rattle.model.proofs.Laws.Valid.{some_some, none_some}
-use Rattle.resolving.specs.Slots.{Want, look, unassigned, no_place, place_want, want_of}
+use Rattle.resolving.specs.Slots.{Want, look, unassigned, no_place, place_want}
 
 none_names : {a : Tag} → no_place ≡ look a → ⊥
 none_names e = let z : ◌≡◌ {A = ℕ} 0 1 = cc in omega arith
@@ -66,25 +66,39 @@ want_past (q ∷ l) zero h = absurd (let z : ⊥ = omega arith in z)
 want_past (none ∷ l) (suc p) h = want_past l p (omega arith)
 want_past (some a ∷ l) (suc p) h = want_past l p (omega arith)
 
--- ---- the slots of a list's record
+-- ---- the places of a list's record
 
-module _ (l : InputList) (q : ℕ) where
-  module _ (some-place : q ≢ 0) {xs : List PlaceRecord} (live : xs ≡ take l.count l.places) where
-    next : want_of l q ≡ place_want (map place_of xs) (q - 1)
-    unfolding rows
-    next = let e : q ≡ suc (q - 1) = omega arith in ap (want_of l) e ∙ ap (λ (z : List PlaceRecord). place_want (map place_of z) (q - 1)) (sym live)
+module _ (l : InputList) (p : ℕ) {xs : List PlaceRecord} (live : xs ≡ take l.count l.places) where
+  abbrev Want-is : Want → Type 0
+  Want-is w = place_want (rows place_of l.count l.places) p ≡ w
 
-    pub slot-past : length xs ≤ q - 1 → no_place ≡ want_of l q
-    slot-past h = sym (next ∙ want_past (map place_of xs) (q - 1) (omega (arith, length-map xs place_of)))
+  pub place-past : length xs ≤ p → Want-is no_place
+  unfolding rows
+  place-past h = rw (← live) (want_past (map place_of xs) p (omega (arith, length-map xs place_of)))
 
-    here : q - 1 < length xs → want_of l q ≡ placed (place_of (get_or xs (q - 1) None))
-    unfolding place_of
-    here h = next ∙ want_at (map place_of xs) (q - 1) (omega (arith, length-map xs place_of)) ∙ ap placed (get_or-map place_of xs (q - 1) None)
+  here : p < length xs → Want-is (placed (place_of (get_or xs p None)))
+  unfolding place_of rows
+  here h = rw (← live) (want_at (map place_of xs) p (omega (arith, length-map xs place_of)) ∙ ap placed (get_or-map place_of xs p None))
 
-    pub slot-named : q - 1 < length xs → (t : Label) → Some t ≡ get_or xs (q - 1) None → look (bytes_of t) ≡ want_of l q
-    unfolding place_of
-    slot-named h t e = sym (here h ∙ ap (λ (x : PlaceRecord). placed (place_of x)) (sym e))
+  pub place-named : p < length xs → (t : Label) → Some t ≡ get_or xs p None → Want-is (look (bytes_of t))
+  unfolding place_of
+  place-named h t e = here h ∙ ap (λ (x : PlaceRecord). placed (place_of x)) (sym e)
 
-    pub slot-gap : q - 1 < length xs → None ≡ get_or xs (q - 1) None → unassigned ≡ want_of l q
-    unfolding place_of
-    slot-gap h e = sym (here h ∙ ap (λ (x : PlaceRecord). placed (place_of x)) (sym e))
+  pub place-gap : p < length xs → None ≡ get_or xs p None → Want-is unassigned
+  unfolding place_of
+  place-gap h e = here h ∙ ap (λ (x : PlaceRecord). placed (place_of x)) (sym e)
+
+  -- the place that names a tag
+  pub want-named : {a : Tag} → Want-is (look a) → (t : Label) × (p < length xs) × (get_or xs p None ≡ Some t) × (bytes_of t ≡ a)
+  want-named {a} e = in_bounds (dec_lt p (length xs))
+    where
+      same : {b c : Tag} → look b ≡ look c → b ≡ c
+      same q = cc
+
+      read : (h : p < length xs) (x : PlaceRecord) → get_or xs p None ≡ x → (t : Label) × (p < length xs) × (get_or xs p None ≡ Some t) × (bytes_of t ≡ a)
+      read h (Some t) q = (t, h, q, same (sym (place-named h t (sym q)) ∙ e))
+      read h None q = absurd (gap_names (sym (place-gap h (sym q)) ∙ e))
+
+      in_bounds : Dec (p < length xs) → (t : Label) × (p < length xs) × (get_or xs p None ≡ Some t) × (bytes_of t ≡ a)
+      in_bounds (yes h) = read h (get_or xs p None) refl
+      in_bounds (no n) = absurd (none_names (sym (place-past (omega arith)) ∙ e))

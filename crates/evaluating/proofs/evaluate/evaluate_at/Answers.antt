@@ -1,12 +1,11 @@
 -- `evaluating::evaluate::evaluate_at` meets its contract: `Laws/Along.antt`. Assumes nothing.
-use Rattle.std.proofs.Common.{Err, refl, subst}
+use Rattle.std.proofs.Common.{subst}
 use Rattle.graph.specs.Compile.{CompilesAs}
 use Rattle.evaluating.proofs.Laws.Along.{replies, hands_on}
 use Rattle.evaluating.proofs.evaluate.evaluate_at.Goals as goal
 
 pub returns-in_default : goal.returns-in_default
-returns-in_default c =
-    rw (c.and.ensures, c.in_default.is) (hands_on c.args.m.now c.args.target.now c.args.p (subst (CompilesAs c.args.m.now c.args.target.now) c.in_default.is c.compile-compiled.ensures) (Err c.in_default.field-0) refl)
+returns-in_default c = hands_on c.args.m.now c.args.target.now c.args.p (subst (CompilesAs c.args.m.now c.args.target.now) c.unwrap_err.ensures c.compile-compiled.ensures)
 
 pub number_along-number-requires : goal.number_along-number-requires
 number_along-number-requires c = record { target = c.args.target.now; compiled = subst (CompilesAs c.args.m.now c.args.target.now) c.in-Ok.is c.compile-compiled.ensures }

@@ -2,5 +2,5 @@
 use Rattle.graph.specs.Wiring.{Wired}
 use Rattle.graph.proofs.wiring.wires.Given as goal
 
-abbrev pub invariant-loop-l : goal.invariant-loop-l
-invariant-loop-l l = Wired l.found l.l l.w
+abbrev pub invariant-loop-list : goal.invariant-loop-list
+invariant-loop-list l = Wired l.lists l.list-index l.w

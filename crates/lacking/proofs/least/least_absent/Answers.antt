@@ -1,19 +1,23 @@
--- `lacking::least::least_absent` meets its contract: `Laws/Least.antt`. Assumes nothing.
-use Rattle.std.proofs.Common.{arith, ◌≡◌, ◌+◌, ◌*◌, ◌/◌, ◌%◌, [], min, get_or, sym, subst}
-use Rattle.held.proofs.Laws.Rows.{no_list}
-use Rattle.lacking.specs.Least.{LeastOf, AbsentShown}
-use Rattle.nodes.specs.declared.Wire.TheVariants.{Past}
-use Rattle.lacking.proofs.Laws.Least.{absent_more}
+-- `lacking::least::least_absent` meets its contract: `Laws/Shown.antt`. Assumes nothing.
+use Rattle.std.proofs.Common.{rules}
+use Rattle.std.specs.Cmp.Lexicographic.{slice_cmp}
+use Rattle.std.specs.Ordering.{nat_cmp, min_by_ordering}
+use Rattle.std.proofs.lemmas.Iterator.{YieldsList-from_slice, YieldsList-from_zip}
+use Rattle.std.proofs.lemmas.Iterator.Consumers.{YieldsList-at, YieldsList-from_filter, YieldsList-from_filter_map, reduce_from_yields_List}
+use borrow.Author.Tests.{tests}
+use Rattle.tag.specs.View.{bytes_of}
+use Rattle.nodes.specs.Nodes.{target}
+use Rattle.lacking.specs.Least.{marked_at, least, absents}
+use Rattle.lacking.proofs.Laws.Shown.{absent_least}
 use Rattle.lacking.proofs.least.least_absent.Goals as goal
-
-pub loop-j-preserved : goal.loop-j-preserved
-loop-j-preserved c p r =
-    subst (LeastOf (AbsentShown no_list c.args.m.now c.args.found.now c.args.seen.now (c.loop-j.j + 1))) (sym c.absent_turn-least.ensures)
-    (absent_more c.args.m.now c.args.found.now c.args.seen.now c.loop-j.j c.loop-j.least (c.loop-j.invariant p r) c.slot_at-slot.result c.slot_at-slot.ensures
-    (get_or (get_or c.args.found.now (c.loop-j.j / 4) []) (c.loop-j.j % 4) Past) ((r.each (c.loop-j.j / 4) (omega (arith, c.live_lists.ensures.bound, c.loop-j-test.true))).each (c.loop-j.j % 4) (omega arith))
-    c.is_marked-mark.result c.is_marked-mark.ensures)
 
 pub returns : goal.returns
 returns c p r =
-    let e : c.loop-j.j ≡ min c.args.m.now.list_count 128 * 4 = omega (arith, c.live_lists.ensures.bound, c.loop-j-test.false, c.loop-j.auto.j-end) in
-    subst (λ z. LeastOf (AbsentShown no_list c.args.m.now c.args.found.now c.args.seen.now z) c.loop-j.least) e (c.loop-j.invariant p r)
+    absent_least c.args.m.now p c.args.found.now r c.args.seen.now c.live_lists.ensures.rows c.live_lists.ensures.bound _
+    (reduce_from_yields_List (λ s t. min_by_ordering (slice_cmp nat_cmp (bytes_of s) (bytes_of t)) s t) _ _ c.min.ensures.ran
+    (YieldsList-from_filter_map _ (λ x. least (absents x.0 x.1))
+    (YieldsList-at c.filter_map.ensures.source
+    (YieldsList-from_filter _ (λ x. marked_at c.args.seen.now (target x.1.own))
+    (YieldsList-at c.filter.ensures.source (YieldsList-from_zip (YieldsList-at c.zip.ensures.first (YieldsList-from_slice _ c.iter.ensures.rest)) (YieldsList-from_slice c.args.found.now (search rules))))
+    c.filter.ensures.closure (λ x r q k. search (rules, tests))))
+    c.filter_map.ensures.closure (λ x r q k. search (rules, tests))))
