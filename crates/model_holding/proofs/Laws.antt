@@ -7,7 +7,7 @@ use mathlib.Core.List.{List, [], ◌∷◌, ◌++◌}
 use mathlib.Core.Option.{Option, none, some, map}
 use lib.ListN.{take, drop, length}
 use Rattle.std.specs.declared.ops.Range.{Range}
-use Rattle.std.specs.Prelude.{Option as Maybe, MatchOption}
+use Rattle.std.specs.Prelude.{Option as Maybe, Some, None, MatchOption, is_some}
 use Rattle.std.specs.Bool.{MatchBool}
 use Rattle.std.specs.Fn.{Called}
 use Rattle.std.specs.Iterator.{YieldsThen}
@@ -18,6 +18,7 @@ use denote.Param.Members.{Mut}
 use Rattle.std.proofs.lemmas.List.FromFn.{length-range_with_len, get_or-range_with_len}
 use borrow.Author.Tests.{le-leb}
 use Rattle.component.specs.declared.model_component.Component.{Component}
+use Rattle.component_layout.specs.Components.{component_read}
 use Rattle.model.specs.Table.{Table}
 use Rattle.model.specs.Model.{Place}
 use Rattle.layout.specs.Words.{word}
@@ -27,7 +28,7 @@ use Rattle.model_holding.specs.Holds.{Held}
 use Rattle.rows.proofs.Laws.Tests.{apart}
 use Rattle.rows.proofs.Laws.Reading.{rows_append}
 use Rattle.row_reading.proofs.Laws.{blank_as}
-use Rattle.model_bytes.proofs.Laws.Reading.{entry_is, list_is}
+use Rattle.model_bytes.proofs.Laws.Reading.{entry_is, list_is, places_rest}
 
 held_as : {A : Type 0} {o p : Option A} → o ≡ p → Held p → Held o
 held_as e h = record { held = h.held; is = e ∙ h.is }
@@ -55,13 +56,14 @@ module _ (s : List ℕ) (at : ℕ) {n : ℕ} (w : n ≡ word s at) where
       let q : suc (n - 1) ≡ n = omega (arith, z) in
       record { held = some h.held; is = ap (λ (k : ℕ). place_from k s (at + 8)) (sym w ∙ sym q) ∙ ap (map some) h.is }
 
-pub entry-held : (s : List ℕ) (at : ℕ) → Held (tag_in s at) → (c : Component) → component_in s (at + 40) ≡ some c → Held (entry_in s at)
-entry-held s at t c e = record { held = (t.held, c); is = entry_is s at t.is e }
+pub entry-held : (s : List ℕ) (at : ℕ) → Held (tag_in s at) → (read : Maybe Component) → is_some read ≡ true → component_read read ≡ component_in s (at + 40) → Held (entry_in s at)
+entry-held s at t None e q = absurd (apart e refl)
+entry-held s at t (Some c) e q = record { held = (t.held, c); is = entry_is s at t.is (sym q) }
 
-pub list-checked : (s : List ℕ) (at : ℕ) {n : ℕ} {b : Bool} → n ≡ word s (at + 40) → n ≤ 3 → Held (tag_in s at) → b ≡ blank s (at + 48 + 40 * n) (at + 168 - (at + 48 + 40 * n)) → b ≡ true
+pub list_checked : (s : List ℕ) (at : ℕ) {n : ℕ} {b : Bool} → n ≡ word s (at + 40) → n ≤ 3 → Held (tag_in s at) → b ≡ blank s (at + 48 + 40 * n) (at + 168 - (at + 48 + 40 * n)) → b ≡ true
     → Held (rows_in (place_row s (at + 48)) n) → Held (list_in s at)
-list-checked s at {n} w h t e q r =
-    record { held = (t.held, r.held); is = list_is s at w h (blank_as s (at + 48 + 40 * n) (at + 168) (40 * (3 - n)) e (omega arith) ∙ q) t.is r.is }
+list_checked s at {n} w h t e q r =
+    record { held = (t.held, r.held); is = list_is s at w h (places_rest s at n h e ∙ q) t.is r.is }
 
 -- ---- rows
 
@@ -84,9 +86,9 @@ rows_held row (suc n) h =
     let last = h n (omega arith) in
     record { held = below.held ++ (last.held ∷ []); is = ap (rows_in row) (let z : suc n ≡ n + 1 = omega arith in z) ∙ rows_append row n below.is last.is }
 
-pub model-held : (s : List ℕ) {n k : ℕ} → headed s ≡ true → Held (place_in s 24) → n ≡ word s 8 → Held (rows_in (entry_row s) n) → k ≡ word s 16 → Held (rows_in (list_row s) k) → Held (model_in s)
+pub model_holds : (s : List ℕ) {n k : ℕ} → headed s ≡ true → Held (place_in s 24) → n ≡ word s 8 → Held (rows_in (entry_row s) n) → k ≡ word s 16 → Held (rows_in (list_row s) k) → Held (model_in s)
 unfolding model_in
-model-held s h d n cs k ls = record {
+model_holds s h d n cs k ls = record {
   held = record { components = cs.held; lists = ls.held; default = d.held };
   is =
       ap (λ (b : Bool). cond b (joined (rows_in (entry_row s) (word s 8)) (rows_in (list_row s) (word s 16)) (place_in s 24)) none) h

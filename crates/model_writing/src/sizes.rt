@@ -11,16 +11,12 @@ fn places_fit(l: &InputList) -> bool
     l.live_places().iter().all(place_fits)
 }
 
+// Kept: sound_lists' `list_sound` judges the same three things, but of one place at least: 7 asks for one, and bytes hold a list of none.
+#[tactic(auto, unfolding(model::specs::View::list_fits))]
 fn list_fits(l: &InputList) -> bool
     ensures { result ≡ list_fits l.now }
 {
-    if 32 < l.tag.len {
-        return false;
-    }
-    if 3 < l.count {
-        return false;
-    }
-    places_fit(l)
+    l.tag.fits() && l.count <= 3 && places_fit(l)
 }
 
 fn lists_fit(m: &Model) -> bool
@@ -32,7 +28,7 @@ fn lists_fit(m: &Model) -> bool
 fn entry_fits(e: &ComponentEntry) -> bool
     ensures { result ≡ entry_fits e.now }
 {
-    e.tag.len <= 32
+    e.tag.fits()
 }
 
 fn components_fit(m: &Model) -> bool
@@ -42,20 +38,13 @@ fn components_fit(m: &Model) -> bool
 }
 
 // Whether the record is within its sizes: the part of 7 that bytes depend on.
+#[tactic(auto, unfolding(model::specs::View::fits))]
 pub fn model_fits(m: &Model) -> bool
     ensures { result ≡ fits m.now }
 {
-    if 64 < m.component_count {
-        return false;
-    }
-    if 128 < m.list_count {
-        return false;
-    }
-    if !components_fit(m) {
-        return false;
-    }
-    if !lists_fit(m) {
-        return false;
-    }
-    place_fits(&m.default)
+    m.component_count <= 64
+        && m.list_count <= 128
+        && components_fit(m)
+        && lists_fit(m)
+        && place_fits(&m.default)
 }

@@ -1,4 +1,4 @@
-// What stands at a place of the bytes that the host lends (docs/LAYOUT.md): the writers that a model and the answers share.
+// Writing into the bytes that the host lends (docs/LAYOUT.md): what models and answers share.
 #![tactic(auto)]
 
 pub mod writing;

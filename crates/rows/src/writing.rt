@@ -1,29 +1,22 @@
-// Writing at a place; where there is no room, nothing is changed. A length or a count past its size counts as the size.
-ghost use Rattle.std.specs.Prelude.{◌≡◌, true, ◌+◌, ◌*◌, ◌-◌, ◌≤◌, min, leb, length, take, drop, map};
+// Writers from byte `at` of a slice on. Where there is no room for the whole of what is written, nothing is changed. A tag's length past 32 counts as 32, and a list's count of places past 3 as 3.
+// The functions that put, and those that they call, ask for the room by a clause.
+// Kept: the widths 24, 32 and 48 as numbers: 24 and 48 stand in one writer each, beside the clause that names them; 32, the bytes of a tag, in `write_text` and in `put_place`.
+ghost use Rattle.std.specs.Prelude.{◌≡◌, true, ◌+◌, ◌*◌, ◌-◌, ◌≤◌, min, length, map};
 ghost use Rattle.std.proofs.Math.Option.{some};
 ghost use Rattle.tag.specs.View.{bytes_of};
 ghost use Rattle.model.specs.View.{place_of};
 ghost use Rattle.layout.specs.Words.{word};
-ghost use Rattle.rows.specs.Rows.{blank, text_in, tag_in, place_in, six_in, component_in, rows_in, place_row, places_in, places_of, three_in};
-ghost use Rattle.rows.specs.Written.{Wrote, Writes};
+ghost use Rattle.rows.specs.Rows.{blank, text_in, tag_in, place_in, component_in, rows_in, place_row, places_in, places_of, three_in};
+ghost use Rattle.rows.specs.Written.{Wrote, Writes, WroteWords};
 
 use component::model_component::Component;
 use component_layout::component_numbers::ComponentWords;
-use layout::writing::write_word;
+use layout::model::{PLACE_SIZE, TAG_SIZE};
+use layout::writing::{has_room, write_word};
 use model::implicit_model::{InputList, Place};
 use tag::Tag;
 
-// Whether n bytes from a place on are in the slice.
-// Kept: each writer asks for room and then puts. One that takes what it puts as a closure has the same line, `if_room(s, at, 40, |s| put_tag(s, at, t))`, and a clause for what the closure leaves.
-fn has_room(s: &[u8], at: usize, n: usize) -> bool
-    ensures { result ≡ leb (at + n) (length s.now) }
-{
-    if s.len() < n {
-        return false;
-    }
-    at <= s.len() - n
-}
-
+// Kept: a line of its own over layout's `write_word`. That says which bytes stand there; this, what is read there where there is room, which the callers below go on from; `write_number`, the same of any byte.
 fn put_word(s: &mut [u8], at: usize, x: u64)
     requires { at + 8 ≤ length s.old }
     ensures { Wrote (λ t. word t at) x at 8 s.old s.new }
@@ -35,13 +28,11 @@ fn put_word(s: &mut [u8], at: usize, x: u64)
 pub fn write_number(s: &mut [u8], at: usize, x: u64)
     ensures { Writes (λ t. word t at) x at 8 s.old s.new }
 {
-    if has_room(s, at, 8) {
-        put_word(s, at, x);
-    }
+    write_word(s, at, x);
 }
 
 // Writes n bytes that are 0.
-// Kept: std's `fill`, and below `copy_from_slice`, under a clause that says what is read there afterwards.
+// Kept: a function for std's `fill`, since what is read there afterwards would else be shown anew in the proof of each of the three that call it.
 fn clear(s: &mut [u8], at: usize, n: usize)
     requires { at + n ≤ length s.old }
     ensures { Wrote (λ t. blank t at n) true at n s.old s.new }
@@ -49,20 +40,12 @@ fn clear(s: &mut [u8], at: usize, n: usize)
     s[at..at + n].fill(0);
 }
 
-// Writes some bytes.
-fn copy_bytes(s: &mut [u8], at: usize, b: &[u8])
-    requires { at + length b.now ≤ length s.old }
-    ensures { Wrote (λ t. take (length b.now) (drop at t)) b.now at (length b.now) s.old s.new }
-{
-    s[at..at + b.len()].copy_from_slice(b);
-}
-
-// Writes the bytes of a tag into 32 bytes.
+// Writes the bytes of a tag, and 0 after them, 32 in all.
 fn write_text(s: &mut [u8], at: usize, b: &[u8])
     requires { (at + 32 ≤ length s.old) × (length b.now ≤ 32) }
     ensures { Wrote (λ u. text_in (length b.now) u at) (some b.now) at 32 s.old s.new }
 {
-    copy_bytes(s, at, b);
+    s[at..at + b.len()].copy_from_slice(b);
     clear(s, at + b.len(), 32 - b.len());
 }
 
@@ -76,10 +59,11 @@ fn put_tag(s: &mut [u8], at: usize, t: Tag)
 }
 
 // Writes a tag, 40 bytes.
+// Kept: this and the writers below ask for room and then put. One that took what it puts as a closure would have the same line, `if_room(s, at, TAG_SIZE, |s| put_tag(s, at, t))`, and a clause for what the closure leaves.
 pub fn write_tag(s: &mut [u8], at: usize, t: Tag)
     ensures { Writes (λ u. tag_in u at) (some (bytes_of t)) at 40 s.old s.new }
 {
-    if has_room(s, at, 40) {
+    if has_room(s, at, TAG_SIZE) {
         put_tag(s, at, t);
     }
 }
@@ -101,25 +85,24 @@ fn put_place(s: &mut [u8], at: usize, p: Place)
     }
 }
 
-// Writes a place, 40 bytes.
+// Writes a place of a list, 40 bytes: a tag, or unassigned.
 pub fn write_place(s: &mut [u8], at: usize, p: Place)
     ensures { Writes (λ u. place_in u at) (some (place_of p)) at 40 s.old s.new }
 {
-    if has_room(s, at, 40) {
+    if has_room(s, at, PLACE_SIZE) {
         put_place(s, at, p);
     }
 }
 
-fn put_six(s: &mut [u8], at: usize, w: ComponentWords)
-    requires { at + 48 ≤ length s.old }
-    ensures { Wrote (λ u. six_in u at) w at 48 s.old s.new }
+// Writes words, one after another.
+// Kept: this and `put_places` are one loop by item and width. One over both would take the width and a writer of an item, with clauses for what each item leaves, in place of one line in each.
+fn put_words(s: &mut [u8], at: usize, words: &[u64])
+    requires { at + 8 * length words.now ≤ length s.old }
+    ensures { WroteWords words.now (length words.now) at s.old s.new }
 {
-    put_word(s, at, w.kind);
-    put_word(s, at + 8, w.a);
-    put_word(s, at + 16, w.b);
-    put_word(s, at + 24, w.c);
-    put_word(s, at + 32, w.d);
-    put_word(s, at + 40, w.e);
+    for (i, x) in words.iter().enumerate() {
+        put_word(s, at + 8 * i, *x);
+    }
 }
 
 // Writes a component, 48 bytes: its kind and its numbers.
@@ -128,21 +111,21 @@ pub fn write_component(s: &mut [u8], at: usize, c: Component)
 {
     if has_room(s, at, 48) {
         let w = ComponentWords::from(c);
-        put_six(s, at, w);
+        put_words(s, at, &[w.kind, w.a, w.b, w.c, w.d, w.e]);
     }
 }
 
-// Writes places, 40 bytes each.
+// Writes places, one after another.
 fn put_places(s: &mut [u8], at: usize, places: &[Place])
     requires { at + 40 * length places.now ≤ length s.old }
     ensures { Wrote (λ u. rows_in (place_row u at) (length places.now)) (some (map place_of places.now)) at (40 * length places.now) s.old s.new }
 {
     for (i, p) in places.iter().enumerate() {
-        put_place(s, at + 40 * i, *p);
+        put_place(s, at + PLACE_SIZE * i, *p);
     }
 }
 
-// And 0 past their count.
+// Writes those places of a list that count, and 0 after them, 120 bytes in all.
 fn put_list_places(s: &mut [u8], at: usize, l: InputList)
     requires { at + 120 ≤ length s.old }
     ensures { Wrote (λ u. places_in (min l.count 3) u at) (some (places_of l.count l)) at 120 s.old s.new }
@@ -150,25 +133,16 @@ fn put_list_places(s: &mut [u8], at: usize, l: InputList)
     let places = l.live_places();
     let n = places.len();
     put_places(s, at, places);
-    clear(s, at + 40 * n, 40 * (3 - n));
+    clear(s, at + PLACE_SIZE * n, PLACE_SIZE * (3 - n));
 }
 
 // Writes the places of a list, 120 bytes.
 pub fn write_places(s: &mut [u8], at: usize, l: InputList)
     ensures { Writes (λ u. places_in (min l.count 3) u at) (some (places_of l.count l)) at 120 s.old s.new }
 {
-    if has_room(s, at, 120) {
+    if has_room(s, at, 3 * PLACE_SIZE) {
         put_list_places(s, at, l);
     }
-}
-
-fn put_three(s: &mut [u8], at: usize, a: u64, b: u64, c: u64)
-    requires { at + 24 ≤ length s.old }
-    ensures { Wrote (λ u. three_in u at) (a, (b, c)) at 24 s.old s.new }
-{
-    put_word(s, at, a);
-    put_word(s, at + 8, b);
-    put_word(s, at + 16, c);
 }
 
 // Writes three words, 24 bytes.
@@ -176,6 +150,6 @@ pub fn write_three(s: &mut [u8], at: usize, a: u64, b: u64, c: u64)
     ensures { Writes (λ u. three_in u at) (a, (b, c)) at 24 s.old s.new }
 {
     if has_room(s, at, 24) {
-        put_three(s, at, a, b, c);
+        put_words(s, at, &[a, b, c]);
     }
 }

@@ -1,5 +1,5 @@
 -- The model that the header and the tables make. Assumes nothing.
-use Prim.Native.Nat.{ℕ, ◌≤◌, ◌<◌}
+use Prim.Native.Nat.{ℕ, ◌≤◌}
 use mathlib.Core.Path.{◌≡◌, refl, sym, ap, subst, ◌∙◌}
 use mathlib.Core.Bool.{Bool, true, false, ◌&&◌, cond}
 use mathlib.Core.List.{List}
@@ -7,7 +7,7 @@ use mathlib.Core.Option.{Option, none, some}
 use Rattle.std.specs.Prelude.{Some}
 use lib.Dec.{leb, eqb}
 use lib.ListN.{length}
-use borrow.Author.Tests.{le-leb, lt-leb, eq-eqb, ne_eqb, eqb-true, leb-true}
+use borrow.Author.Tests.{le-leb, eq-eqb, ne_eqb, eqb-true, leb-true}
 use Rattle.component.specs.declared.model_component.Component.{Component}
 use Rattle.model.specs.declared.implicit_model.Model.{Model as Record}
 use Rattle.model.specs.Table.{Table}
@@ -22,17 +22,9 @@ use Rattle.rows.proofs.Laws.Tests.{and_left, and_right, and_false}
 -- ---- the header
 
 module _ (s : List ℕ) where
-  pub headed-short : (length s ≡ 27200 → ⊥) → headed s ≡ false
-  unfolding headed
-  headed-short h = rw (ne_eqb (length s) 27200 h)
-
   pub headed_other : (word s 0 ≡ 1 → ⊥) → headed s ≡ false
   unfolding headed
   headed_other h = and_false (eqb (length s) 27200) (rw (ne_eqb (word s 0) 1 h))
-
-  pub headed-many : 64 < word s 8 → headed s ≡ false
-  unfolding headed
-  headed-many h = and_false (eqb (length s) 27200) (and_false (eqb (word s 0) 1) (rw (lt-leb (word s 8) 64 h)))
 
   pub headed_is : length s ≡ 27200 → word s 0 ≡ 1 → word s 8 ≤ 64 → headed s ≡ leb (word s 16) 128
   unfolding headed

@@ -23,16 +23,24 @@ use Rattle.rows.proofs.Laws.Writing.{rows_one}
 use Rattle.layout.specs.Words.{word}
 use Rattle.rows.specs.Rows.{blank, text_in, tag_in, place_from, place_in, component_in, append, rows_in, place_row, places_in}
 use Rattle.rows.proofs.Laws.Tests.{and_true, every_append}
-use Rattle.rows.proofs.Laws.Reading.{text_clean, rows_append, places-many, places_is}
+use Rattle.row_reading.proofs.Laws.{blank_as}
+use Rattle.rows.proofs.Laws.Reading.{text_dirty, text_clean, rows_append, places-many, places_is}
 use Rattle.model_bytes.specs.ModelBytes.{both, entry_in, list_in}
 use Rattle.model_bytes.specs.Steps.{Read, all_fit}
 
 -- ---- tags
 
 module _ (n : ℕ) (s : List ℕ) (at : ℕ) where
-  pub text-read : {b : List ℕ} → n ≤ 32 → blank s (at + n) (32 - n) ≡ true → b ≡ take 32 (drop at s) → Read bytes_of tag_fits (text_in n s at) (Some (record { bytes = b; len = n }))
-  unfolding bytes_of tag_fits
-  text-read {b} h e f = (text_clean n s at h e ∙ ap some (sym (ap (take n) f ∙ take-take n 32 (drop at s) h)), le-leb n 32 h)
+  module _ {b : Bool} (short : n ≤ 32) (e : b ≡ blank s (at + n) (at + 32 - (at + n))) where
+    rest : blank s (at + n) (32 - n) ≡ b
+    rest = blank_as s (at + n) (at + 32) (32 - n) e (omega arith)
+
+    pub text_unread : b ≡ false → text_in n s at ≡ none
+    text_unread f = text_dirty n s at short (rest ∙ f)
+
+    pub text_read : b ≡ true → {bytes : List ℕ} → bytes ≡ take 32 (drop at s) → Read bytes_of tag_fits (text_in n s at) (Some (record { bytes = bytes; len = n }))
+    unfolding bytes_of tag_fits
+    text_read t f = (text_clean n s at short (rest ∙ t) ∙ ap some (sym (ap (take n) f ∙ take-take n 32 (drop at s) short)), le-leb n 32 short)
 
 pub tag_read : (s : List ℕ) (at : ℕ) (t : Option Label) {n : ℕ} → n ≡ word s at → Read bytes_of tag_fits (text_in n s (at + 8)) t → Read bytes_of tag_fits (tag_in s at) t
 unfolding tag_in
@@ -144,6 +152,10 @@ module _ (s : List ℕ) (at : ℕ) where
 
         pub list_is : {t : Tag} {ps : List Place} → tag_in s at ≡ some t → rows_in (place_row s (at + 48)) n ≡ some ps → list_in s at ≡ some (t, ps)
         list_is p q = list_by p (places_is n s (at + 48) h clean ∙ q)
+
+-- the bytes of a list past its places, as they are asked for
+pub places_rest : (s : List ℕ) (at n : ℕ) {b : Bool} → n ≤ 3 → b ≡ blank s (at + 48 + 40 * n) (at + 168 - (at + 48 + 40 * n)) → blank s (at + 48 + 40 * n) (40 * (3 - n)) ≡ b
+places_rest s at n h e = blank_as s (at + 48 + 40 * n) (at + 168) (40 * (3 - n)) e (omega arith)
 
 pub list_sized : (l : InputList) → tag_fits l.tag ≡ true → l.count ≤ 3 → every (rows place_fits l.count l.places) ≡ true → list_fits l ≡ true
 unfolding list_fits

@@ -1,28 +1,16 @@
 -- A record within its sizes, test by test. Assumes nothing.
-use Prim.Native.Nat.{◌≤◌, ◌<◌}
-use mathlib.Core.Path.{◌≡◌, sym, ap, ◌∙◌}
-use mathlib.Core.Bool.{Bool, true, false, ◌&&◌}
+use Prim.Native.Nat.{◌≤◌}
+use mathlib.Core.Path.{◌≡◌}
+use mathlib.Core.Bool.{Bool, true, ◌&&◌}
 use lib.Dec.{leb}
-use borrow.Author.Tests.{le-leb, lt-leb, leb-true}
+use borrow.Author.Tests.{leb-true}
 use Rattle.tag.specs.View.{tag_fits}
 use Rattle.model.specs.declared.implicit_model.InputList.{InputList}
 use Rattle.model.specs.declared.implicit_model.Model.{Model as Record}
 use Rattle.model.specs.View.{rows, every, place_fits, entry_fits, list_fits, fits}
-use Rattle.rows.proofs.Laws.Tests.{and_left, and_right, and_false, and_one}
+use Rattle.rows.proofs.Laws.Tests.{and_left, and_right}
 
 module _ (l : InputList) where
-  pub list-long : 32 < l.tag.len → false ≡ list_fits l
-  unfolding list_fits tag_fits
-  list-long h = sym (rw (lt-leb l.tag.len 32 h))
-
-  pub list-many : 3 < l.count → false ≡ list_fits l
-  unfolding list_fits
-  list-many h = sym (and_false (tag_fits l.tag) (rw (lt-leb l.count 3 h)))
-
-  pub list-tests : l.tag.len ≤ 32 → l.count ≤ 3 → every (rows place_fits l.count l.places) ≡ list_fits l
-  unfolding list_fits tag_fits
-  list-tests p q = sym (rw (le-leb l.tag.len 32 p, le-leb l.count 3 q) (and_one (every (rows place_fits l.count l.places))))
-
   pub record Listed : Type 0 where
     pub tag : tag_fits l.tag ≡ true
     pub few : l.count ≤ 3
@@ -48,28 +36,6 @@ module _ (m : Record) where
 
   abbrev d : Bool
   d = place_fits m.default
-
-  pub components-many : 64 < m.component_count → false ≡ fits m
-  unfolding fits
-  components-many h = sym (rw (lt-leb m.component_count 64 h))
-
-  pub lists-many : 128 < m.list_count → false ≡ fits m
-  unfolding fits
-  lists-many h = sym (and_false (leb m.component_count 64) (rw (lt-leb m.list_count 128 h)))
-
-  module _ (few : m.component_count ≤ 64) (lists : m.list_count ≤ 128) where
-    tests : fits m ≡ (cs && (ls && d))
-    unfolding fits
-    tests = rw (le-leb m.component_count 64 few, le-leb m.list_count 128 lists) (ap (λ (b : Bool). cs && (ls && b)) (and_one d))
-
-    pub components-unfit : cs ≡ false → false ≡ fits m
-    components-unfit e = sym (tests ∙ ap (λ (b : Bool). b && (ls && d)) e)
-
-    pub lists-unfit : ls ≡ false → false ≡ fits m
-    lists-unfit e = sym (tests ∙ and_false cs (ap (λ (b : Bool). b && d) e))
-
-    pub default-fits : cs ≡ true → ls ≡ true → d ≡ fits m
-    default-fits p q = sym (tests ∙ rw (p, q))
 
   pub record Sized : Type 0 where
     pub components : m.component_count ≤ 64

@@ -1,20 +1,16 @@
 -- `is_blank` meets its contract. Assumes nothing.
-use Prim.Native.Nat.{◌-◌}
-use mathlib.Core.Path.{◌≡◌, sym, ap}
-use native.Mathlib.Omega.{arith}
-use Rattle.rows.specs.Rows.{blank}
-use Rattle.row_reading.proofs.Laws.{blank-next, blank-stop, blank_rest}
+use mathlib.Core.Path.{◌≡◌, refl, ap, subst, ◌∙◌}
+use Rattle.std.proofs.Common.{rules}
+use Rattle.std.specs.Slice.{IsGetRangeResult}
+use Rattle.std.proofs.lemmas.Iterator.{cases_from_all, YieldsList-from_slice}
+use Rattle.row_reading.proofs.Laws.{part_is, blank_found}
 use Rattle.row_reading.proofs.is_blank.Goals as goal
 
-pub loop-i-init : goal.loop-i-init
-unfolding blank
-loop-i-init c = ap (blank c.args.s.now c.args.start) (let z : c.args.start - c.args.start ≡ 0 = omega arith in z)
-
-pub returns-then-s-i-ne0 : goal.returns-then-s-i-ne0
-returns-then-s-i-ne0 c = sym (blank-stop _ _ c.loop-i.i (omega arith) _ (omega arith) c.if-s-i-ne0.true)
-
-pub loop-i-preserved : goal.loop-i-preserved
-loop-i-preserved c = blank-next _ _ c.loop-i.i (omega arith) c.loop-i.invariant c.if-s-i-ne0.false
-
 pub returns : goal.returns
-returns c = sym (blank_rest _ _ c.loop-i.i (omega arith) _ (omega arith) c.loop-i.invariant)
+returns c =
+    let s = c.args.s.now in
+    let start = c.args.start in
+    let bytes = c.unwrap_or-there.result.now in
+    let part = ap (λ b. b.now) c.unwrap_or-there.ensures ∙ part_is s start c.args.end c.get.result _ refl (subst (λ n. IsGetRangeResult s start n c.get.result) c.min.ensures c.get.ensures.lookup) in
+    blank_found s start c.args.end bytes c.all.result part
+    (cases_from_all _ _ _ (λ x. x ≡ 0) (λ x. x ≡ 0 → ⊥) c.all.ensures.ran (YieldsList-from_slice bytes cc) (λ x q k. search rules) (λ x q k. search rules))

@@ -1,18 +1,20 @@
 -- What is read at a place. Assumes nothing.
-use Prim.Native.Nat.{ℕ, ◌+◌, ◌*◌, ◌-◌, ◌≤◌, ◌<◌}
-use mathlib.Core.Path.{◌≡◌, ap, ◌∙◌}
+use Prim.Native.Nat.{ℕ, zero, suc, ◌+◌, ◌*◌, ◌-◌, ◌≤◌, ◌<◌}
+use mathlib.Core.Path.{◌≡◌, refl, ap, ◌∙◌}
 use mathlib.Core.Bool.{Bool, true, false, ◌&&◌, cond}
 use mathlib.Core.List.{List, [], ◌∷◌, ◌++◌}
 use mathlib.Core.Option.{Option, none, some}
 use native.Mathlib.Numerals.{add-one}
+use native.Mathlib.Omega.{arith}
 use lib.ListN.{get_or, take, drop}
 use borrow.Author.Tests.{le-leb, lt-leb, eq-eqb}
 use Rattle.rows.specs.Rows.{blank, text_in, append, rows_in, place_row, places_in}
 use Rattle.rows.proofs.Laws.Tests.{and_true}
 
-pub blank-more : (s : List ℕ) (at i : ℕ) → blank s at i ≡ true → get_or s (at + i) 0 ≡ 0 → blank s at (i + 1) ≡ true
+pub zeros_blank : (s : List ℕ) (at n : ℕ) → ((j : ℕ) → j < n → get_or s (at + j) 0 ≡ 0) → blank s at n ≡ true
 unfolding blank
-blank-more s at i p q = rw add-one (and_true p (eq-eqb (get_or s (at + i) 0) 0 q))
+zeros_blank s at zero h = refl
+zeros_blank s at (suc n) h = and_true (zeros_blank s at n (λ j l. h j (omega arith))) (eq-eqb (get_or s (at + n) 0) 0 (h n (omega arith)))
 
 -- ---- tags
 

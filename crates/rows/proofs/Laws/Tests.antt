@@ -1,11 +1,8 @@
 -- Tests as facts. Assumes nothing.
-use Prim.Native.Nat.{ℕ, ◌+◌, ◌-◌, ◌≤◌, ◌<◌}
 use mathlib.Core.Path.{◌≡◌, refl, sym, subst, ◌∙◌}
 use mathlib.Core.Bool.{Bool, true, false, ◌&&◌}
 use mathlib.Core.List.{List, [], ◌∷◌, ◌++◌}
-use native.Mathlib.Omega.{arith}
-use lib.Dec.{T, leb}
-use borrow.Author.Tests.{le-leb, lt-leb, leb-true, leb-false}
+use lib.Dec.{T}
 use Rattle.model.specs.View.{every}
 
 pub apart : {b : Bool} → b ≡ true → b ≡ false → ⊥
@@ -31,19 +28,3 @@ every_append [] true = refl
 every_append [] false = refl
 every_append (true ∷ xs) b = every_append xs b
 every_append (false ∷ xs) b = refl
-
-pub and_one : (a : Bool) → (a && true) ≡ a
-and_one true = refl
-and_one false = refl
-
--- whether n bytes from a place on are among `size`
-module _ (size at n : ℕ) where
-  pub no_room : size < n → false ≡ leb (at + n) size
-  no_room h = sym (lt-leb (at + n) size (omega arith))
-
-  pub room : n ≤ size → leb at (size - n) ≡ leb (at + n) size
-  room h = go (leb at (size - n)) refl
-    where
-      go : (b : Bool) → leb at (size - n) ≡ b → b ≡ leb (at + n) size
-      go true e = sym (le-leb (at + n) size (omega (arith, leb-true at (size - n) e)))
-      go false e = sym (lt-leb (at + n) size (omega (arith, leb-false at (size - n) e)))

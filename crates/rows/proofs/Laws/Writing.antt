@@ -1,32 +1,29 @@
 -- What is written at a place, and rows that are written one after another. Assumes nothing.
-use Prim.Native.Nat.{ℕ, zero, suc, ◌+◌, ◌*◌, ◌-◌, ◌≤◌, ◌<◌, min}
+use Prim.Native.Nat.{ℕ, ◌+◌, ◌*◌, ◌-◌, ◌≤◌, ◌<◌, min}
 use mathlib.Core.Path.{◌≡◌, refl, sym, ap, subst, ◌∙◌}
-use mathlib.Core.Bool.{Bool, true, false, cond}
+use mathlib.Core.Bool.{Bool, true, cond}
 use mathlib.Core.List.{List, [], ◌∷◌, ◌++◌, map as mapped}
 use mathlib.Core.Option.{Option, none, some, map}
 use native.Mathlib.Numerals.{add-one}
+use native.Mathlib.Decide.{dec_lt}
 use native.Mathlib.Omega.{arith}
-use lib.ListN.{length, get_or, take, drop, set, replicate, get_or-replicate}
-use lib.Seq.{take_at, drop_at, drop-drop, length-take-le, get_or-drop, get_or-take, set-get_or, take-length}
+use lib.ListN.{length, get_or, take, drop, replicate, get_or-replicate}
+use lib.Seq.{take_at, drop_at, drop-drop, length-take-le, get_or-drop, get_or-take, set-get_or}
 use borrow.Rule.Slice.PartMut.{put_mid}
 use borrow.Author.Tests.{eq-eqb}
-use Rattle.tag.specs.declared.Tag.{Tag as Label}
-use Rattle.tag.specs.View.{bytes_of}
-use Rattle.tag.proofs.Laws.View.{bytes_of-clamped}
 use Rattle.component.specs.declared.model_component.Component.{Component}
 use Rattle.model.specs.declared.implicit_model.InputList.{InputList}
 use Rattle.model.specs.View.{PlaceRecord, rows, place_of}
-use Rattle.held.specs.Search.{Live}
-use Rattle.held.proofs.Laws.Rows.{no_place, rows_less, rows_more}
+use Rattle.held.proofs.Laws.Rows.{no_place, rows_more}
 use Rattle.layout.specs.Words.{word}
 use Rattle.layout.specs.Writing.{Kept, put, put_word}
 use Rattle.component_layout.specs.declared.component_numbers.Numbered.{Numbered}
 use Rattle.component_layout.specs.Numbers.{Worded}
-use Rattle.layout.proofs.Put.{put-kept, word_kept, word_back}
+use Rattle.layout.proofs.Put.{put-kept, word-short, word_kept, word_back}
 use Rattle.layout.proofs.Kept.{kept-none, kept_then, Agree, agree_below, word_same, bytes_same}
 use Rattle.rows.specs.Rows.{blank, text_in, tag_in, place_from, place_in, six_in, same_words, spelled, component_of_words, component_in, rows_in, place_row, places_in, places_of, three_in}
-use Rattle.rows.specs.Written.{Wrote, Writes}
-use Rattle.rows.proofs.Laws.Reading.{text_clean, rows_append, places_is}
+use Rattle.rows.specs.Written.{Wrote, Writes, WroteWords}
+use Rattle.rows.proofs.Laws.Reading.{zeros_blank, text_clean, rows_append, places_is}
 use Rattle.rows.proofs.Laws.Local.{place_local, rows_local}
 
 -- ---- a part of the bytes overwritten
@@ -48,11 +45,6 @@ module _ (s vs : List ℕ) (at n : ℕ) {t : List ℕ} {k : ℕ} (room : at + n 
 
   byte_there : (j : ℕ) → j < n → get_or t (at + j) 0 ≡ get_or vs j 0
   byte_there j h = sym (get_or-drop at t j 0) ∙ sym (get_or-take n (drop at t) j 0 h) ∙ ap (λ (u : List ℕ). get_or u j 0) copied.holds
-
-zeros_blank : (u : List ℕ) (at n : ℕ) → ((j : ℕ) → j < n → get_or u (at + j) 0 ≡ 0) → blank u at n ≡ true
-unfolding blank
-zeros_blank u at zero h = refl
-zeros_blank u at (suc n) h = rw (zeros_blank u at n (λ j l. h j (omega arith)), eq-eqb (get_or u (at + n) 0) 0 (h n (omega arith)))
 
 pub cleared : (s vs : List ℕ) (at n : ℕ) {t : List ℕ} {k : ℕ} → at + n ≤ length s → length vs ≡ n → k ≡ n → vs ≡ replicate n 0 → t ≡ put_mid at k s vs → Wrote (λ u. blank u at n) true at n s t
 cleared s vs at n room size wide zeros part = record {
@@ -116,31 +108,34 @@ same_self : (w : Numbered ℕ) → same_words w w ≡ true
 unfolding same_words
 same_self w = rw (eq-eqb w.kind w.kind refl, eq-eqb w.a w.a refl, eq-eqb w.b w.b refl, eq-eqb w.c w.c refl, eq-eqb w.d w.d refl, eq-eqb w.e w.e refl)
 
-module _ (w : Numbered ℕ) {at : ℕ} {s t u v x y z : List ℕ} where
-  pub six_wrote : Wrote (λ v. word v at) w.kind at 8 s t → Wrote (λ v. word v (at + 8)) w.a (at + 8) 8 t u → Wrote (λ v. word v (at + 16)) w.b (at + 16) 8 u v
-      → Wrote (λ v. word v (at + 24)) w.c (at + 24) 8 v x → Wrote (λ v. word v (at + 32)) w.d (at + 32) 8 x y → Wrote (λ v. word v (at + 40)) w.e (at + 40) 8 y z
-      → Wrote (λ v. six_in v at) w at 48 s z
-  six_wrote k a b c d e =
-      let ab = both-kept k a at 48 (omega arith) (omega arith) (omega arith) (omega arith) in
-      let bc = both-kept b c (at + 16) 16 (omega arith) (omega arith) (omega arith) (omega arith) in
-      let de = both-kept d e (at + 32) 16 (omega arith) (omega arith) (omega arith) (omega arith) in
-      let be = kept_then (at + 16) 32 bc de (omega arith) (omega arith) (omega arith) (omega arith) in
-      let ce = kept_then (at + 24) 24 c.kept de (omega arith) (omega arith) (omega arith) (omega arith) in
-      let ae = kept_then (at + 8) 40 a.kept be (omega arith) (omega arith) (omega arith) (omega arith) in
-      record {
-        kept = kept_then at 48 k.kept ae (omega arith) (omega arith) (omega arith) (omega arith);
-        holds = rw (word-stays at ae (omega arith) k.holds, word-stays (at + 8) be (omega arith) a.holds, word-stays (at + 16) ce (omega arith) b.holds, word-stays (at + 24) de (omega arith) c.holds, word-stays (at + 32) e.kept (omega arith) d.holds, e.holds);
-      }
+-- six and three words
+module _ {at : ℕ} {s t : List ℕ} where
+  first : {words : List ℕ} {n : ℕ} → 0 < n → WroteWords words n at s t → word t at ≡ get_or words 0 0
+  first h p = ap (word t) (let z : at ≡ at + 8 * 0 = omega arith in z) ∙ p.holds 0 h
 
-module _ {a b c at : ℕ} {s t u v : List ℕ} where
-  pub words-wrote : Wrote (λ v. word v at) a at 8 s t → Wrote (λ v. word v (at + 8)) b (at + 8) 8 t u → Wrote (λ v. word v (at + 16)) c (at + 16) 8 u v
-      → Wrote (λ v. three_in v at) (a, (b, c)) at 24 s v
-  words-wrote p q r =
-      let qr = both-kept q r (at + 8) 16 (omega arith) (omega arith) (omega arith) (omega arith) in
-      record {
-        kept = kept_then at 24 p.kept qr (omega arith) (omega arith) (omega arith) (omega arith);
-        holds = rw (word-stays at qr (omega arith) p.holds, word-stays (at + 8) r.kept (omega arith) q.holds, r.holds);
-      }
+  pub six_wrote : (w : Numbered ℕ) → WroteWords (w.kind ∷ w.a ∷ w.b ∷ w.c ∷ w.d ∷ w.e ∷ []) 6 at s t → Wrote (λ v. six_in v at) w at 48 s t
+  six_wrote w p = record {
+    kept = p.kept;
+    holds = rw (first (omega arith) p, p.holds 1 (omega arith), p.holds 2 (omega arith), p.holds 3 (omega arith), p.holds 4 (omega arith), p.holds 5 (omega arith));
+  }
+
+  pub three_words : {a b c : ℕ} → WroteWords (a ∷ b ∷ c ∷ []) 3 at s t → Wrote (λ v. three_in v at) (a, (b, c)) at 24 s t
+  three_words p = record { kept = p.kept; holds = rw (first (omega arith) p, p.holds 1 (omega arith), p.holds 2 (omega arith)) }
+
+module _ (words : List ℕ) (at : ℕ) where
+  pub words-none : (s : List ℕ) → WroteWords words 0 at s s
+  words-none s = record { kept = kept-none s at 0; holds = λ k h. absurd (omega arith) }
+
+  -- one word more
+  pub words-more : {i : ℕ} {s t u : List ℕ} → WroteWords words i at s t → Wrote (λ v. word v (at + 8 * i)) (get_or words i 0) (at + 8 * i) 8 t u → WroteWords words (i + 1) at s u
+  words-more {i} {u = u} p q = record {
+    kept = kept_then at (8 * (i + 1)) p.kept q.kept (omega arith) (omega arith) (omega arith) (omega arith);
+    holds = λ k h. go k (dec_lt k i) h;
+  }
+    where
+      go : (k : ℕ) → Dec (k < i) → k < i + 1 → word u (at + 8 * k) ≡ get_or words k 0
+      go k (yes l) h = word-stays (at + 8 * k) q.kept (omega arith) (p.holds k l)
+      go k (no l) h = let e : i ≡ k = omega arith in subst (λ (j : ℕ). word u (at + 8 * j) ≡ get_or words j 0) e q.holds
 
 pub component-wrote : (c : Component) {w : Numbered ℕ} {at : ℕ} {s t : List ℕ} → Worded c w → Wrote (λ v. six_in v at) w at 48 s t → Wrote (λ v. component_in v at) (some c) at 48 s t
 unfolding component_in
@@ -211,3 +206,6 @@ module _ {A : Type 0} {reads : List ℕ → A} {a : A} {i n : ℕ} {s : List ℕ
 
   pub narrow : length s < i + n → Writes reads a i n s s
   narrow h = record { wrote = λ x. absurd (let z : ⊥ = omega arith in z); narrow = λ x. refl }
+
+pub number_writes : (s : List ℕ) (at x : ℕ) → x < 0x1_0000_0000_0000_0000 → {t : List ℕ} → t ≡ put_word s at x → Writes (λ u. word u at) x at 8 s t
+number_writes s at x b e = record { wrote = λ h. word-wrote s at x h b e; narrow = λ h. e ∙ sym (word-short s at x h) }

@@ -1,6 +1,6 @@
 -- `put_places` meets its contract. Assumes nothing.
 use native.Mathlib.Omega.{arith}
-use mathlib.Core.Path.{◌≡◌, subst, ap, ◌∙◌}
+use mathlib.Core.Path.{◌≡◌, subst}
 use mathlib.Core.List.{map}
 use mathlib.Core.Option.{some}
 use Prim.Native.Nat.{◌*◌}

@@ -1,5 +1,4 @@
 -- `put_word` meets its contract. Assumes nothing.
-use Rattle.model.specs.View.{fits}
 use Rattle.rows.proofs.Laws.Writing.{word-wrote}
 use Rattle.rows.proofs.writing.put_word.Goals as goal
 

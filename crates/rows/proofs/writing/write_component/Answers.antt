@@ -1,15 +1,15 @@
 -- `write_component` meets its contract. Assumes nothing.
 use mathlib.Core.Path.{sym, ◌∙◌}
 use borrow.Author.Tests.{leb-true, leb-false}
-use Rattle.rows.proofs.Laws.Writing.{component-wrote, writes, narrow}
+use Rattle.rows.proofs.Laws.Writing.{six_wrote, component-wrote, writes, narrow}
 use Rattle.rows.proofs.writing.write_component.Goals as goal
 
-pub put_six-requires : goal.put_six-requires
-put_six-requires c = leb-true _ _ (sym c.has_room.ensures ∙ c.if-has_room.true)
+pub put_words-requires : goal.put_words-requires
+put_words-requires c = leb-true _ _ (sym c.has_room.ensures ∙ c.if-has_room.true)
 
 pub returns-then-has_room : goal.returns-then-has_room
 returns-then-has_room c =
-    writes (leb-true _ _ (sym c.has_room.ensures ∙ c.if-has_room.true)) (component-wrote _ c.from-w.ensures c.put_six.ensures)
+    writes (leb-true _ _ (sym c.has_room.ensures ∙ c.if-has_room.true)) (component-wrote _ c.from-w.ensures (six_wrote _ c.put_words.ensures))
 
 pub returns-else-has_room : goal.returns-else-has_room
 returns-else-has_room c = narrow (leb-false _ _ (sym c.has_room.ensures ∙ c.if-has_room.false))

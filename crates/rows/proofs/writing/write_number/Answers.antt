@@ -1,14 +1,6 @@
 -- `write_number` meets its contract. Assumes nothing.
-use mathlib.Core.Path.{sym, ◌∙◌}
-use borrow.Author.Tests.{leb-true, leb-false}
-use Rattle.rows.proofs.Laws.Writing.{writes, narrow}
+use Rattle.rows.proofs.Laws.Writing.{number_writes}
 use Rattle.rows.proofs.writing.write_number.Goals as goal
 
-pub put_word-requires : goal.put_word-requires
-put_word-requires c = leb-true _ _ (sym c.has_room.ensures ∙ c.if-has_room.true)
-
-pub returns-then-has_room : goal.returns-then-has_room
-returns-then-has_room c = writes (leb-true _ _ (sym c.has_room.ensures ∙ c.if-has_room.true)) c.put_word.ensures
-
-pub returns-else-has_room : goal.returns-else-has_room
-returns-else-has_room c = narrow (leb-false _ _ (sym c.has_room.ensures ∙ c.if-has_room.false))
+pub returns : goal.returns
+returns c = number_writes _ _ _ c.ranges.x.fits c.write_word.ensures
