@@ -13,8 +13,8 @@ pub fn evaluate_in(s: &[u8], target: &[u8], p: Vec3) -> Option<u64>
     ensures { IfSome result (EvaluatesIn s.now target.now p) }
 {
     let standing = wired(s)?;
-    let t = standing.row_of(s, target)?;
-    let line = line_of(&standing.wires, t);
-    let number = number_along(s, &standing, line.as_slice(), t, p)?;
+    let t = standing.row_of(target)?;
+    let line = line_of(&standing.wires.0, t);
+    let number = number_along(&standing, line.as_slice(), t, p)?;
     Some(bits_of(number))
 }

@@ -1,4 +1,4 @@
-// A form's number at a point, straight from the bytes of a model. Sound and not complete: where it does not say yes, decoding and evaluating what was decoded answers.
+// A form's number at a point, straight from the bytes of a model. An answer is right; where there is none, the model is decoded, and evaluated as a record.
 #![tactic(auto)]
 
 mod along;

@@ -1,5 +1,5 @@
 -- One component more in the bytes of a model, and what the edits promise that are defined by `add_plain`. Definitions only.
-use Rattle.std.specs.Prelude.{ℕ, ◌<◌, min, ◌≡◌, Bool, List, Option, Some, None}
+use Rattle.std.specs.Prelude.{ℕ, ◌<◌, min, ◌≡◌, true, List, Option, Some, None}
 use Rattle.tag.specs.declared.Tag.{Tag as Label}
 use Rattle.tag.specs.Tags.{Tag}
 use Rattle.tag.specs.View.{bytes_of}
@@ -22,6 +22,6 @@ abbrev pub Grew : Label → Component → Label → List ℕ → List ℕ → Op
 Grew t c d s u (Some r) = (r ≡ t) × RowMore t c d s u
 Grew t c d s u None = u ≡ s
 
--- what both edits promise that are defined by `add_plain`
-abbrev pub Plainly : Tag → Component → Bool → List ℕ → List ℕ → Option Label → Type 0
-Plainly t c fits s u r = (e : Edit) → ((m : Model) → edit e m ≡ add_plain m t c fits) → Makes e s u r
+-- what both edits promise that are defined by `add_plain`, of a component of the kind that is asked for
+abbrev pub Plainly : Tag → Component → List ℕ → List ℕ → Option Label → Type 0
+Plainly t c s u r = (e : Edit) → ((m : Model) → edit e m ≡ add_plain m t c true) → Makes e s u r

@@ -14,6 +14,7 @@ fn is_free(s: &[u8], t: Tag) -> bool
 }
 
 // The tag if it is free, else tag_1, tag_2 and on, first free; none where that one is too long.
+// Kept: `adding_component` finds it on the record. One function for both would take `is_free` as a closure, so it would have a `requires`, and no public one has; a trait of a store with a law for both is longer than this loop.
 pub(crate) fn free_tag_in(s: &[u8], t: Tag) -> Option<Tag>
     requires { tag_fits t ≡ true }
     ensures { FirstFreeIn s.now (bytes_of t) result }

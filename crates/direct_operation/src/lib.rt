@@ -12,6 +12,7 @@ use crate::put::{put_operation, row_for};
 use component::model_component::Component;
 use finding::Table;
 use input_rows::{Inputs, inputs_fit, operation_row, too_long};
+use layout::model::MODEL_SIZE;
 use model::implicit_model::InputList;
 use standing::stands;
 use tag::Tag;
@@ -21,7 +22,7 @@ pub fn add_listed_in(s: &mut [u8], c: Component, l: InputList, d: Tag) -> Option
     ensures { Listed c l d s.old s.new result }
 {
     let n = Table::Components.count(s);
-    if s.len() != 27200 || 3 < l.count || 64 <= n {
+    if s.len() != MODEL_SIZE || 3 < l.count || 64 <= n {
         return None;
     }
     let t = l.tag;

@@ -10,8 +10,9 @@ ghost use Rattle.direct_renaming.specs.Renaming.{Renamable, ListRenamed};
 
 use direct_swapping::swap_places;
 use finding::Table;
+use layout::model::{COMPONENT_SIZE, COMPONENTS, LIST_SIZE, LISTS};
 use rows::writing::write_tag;
-use standing::stands;
+use standing::row_of_component;
 use tag::Tag;
 
 // The row of the component to be renamed; none where nothing is renamed here: also where a list was left under the new tag.
@@ -19,14 +20,11 @@ fn row_to_rename(s: &[u8], old: &[u8], new: &[u8]) -> Option<usize>
     requires { overlong new.now ≡ false }
     ensures { IfSome result (Renamable s.now old.now new.now) }
 {
-    if !stands(s)
-        || Table::Components.row_of(s, new).is_some()
-        || Table::Lists.row_of(s, new).is_some()
-    {
+    let row = row_of_component(s, old)?;
+    if Table::Components.row_of(s, new).is_some() || Table::Lists.row_of(s, new).is_some() {
         return None;
     }
-    Tag::try_from(old).ok()?;
-    Table::Components.row_of(s, old)
+    Some(row)
 }
 
 // The list in a row, where there is one, under another tag.
@@ -35,7 +33,7 @@ fn rename_list(s: &mut [u8], row: Option<usize>, t: Tag)
     ensures { ListRenamed row (bytes_of t) s.old s.new }
 {
     if let Some(j) = row {
-        write_tag(s, 5696 + 168 * j, t);
+        write_tag(s, LISTS + LIST_SIZE * j, t);
     }
 }
 
@@ -46,7 +44,7 @@ pub fn rename_component_in(s: &mut [u8], old: &[u8], new: &[u8]) -> Option<Tag>
     let t = Tag::try_from(new).ok()?;
     let i = row_to_rename(s, old, new)?;
     let row = Table::Lists.row_of(s, old);
-    write_tag(s, 64 + 88 * i, t);
+    write_tag(s, COMPONENTS + COMPONENT_SIZE * i, t);
     rename_list(s, row, t);
     swap_places(s, old, Some(t));
     Some(t)

@@ -1,9 +1,8 @@
 -- What is written in the rows of a model in bytes. Definitions only.
 use Rattle.std.specs.Prelude.{ℕ, ◌+◌, ◌*◌, ◌≤◌, ◌<◌, ◌≡◌, List, length}
 use Rattle.std.proofs.Math.Option.{some}
-use Rattle.tag.specs.Tags.{Tag}
 use Rattle.tag.specs.View.{bytes_of}
-use Rattle.component.specs.declared.model_component.Component.{Component}
+use Rattle.model.specs.declared.implicit_model.ComponentEntry.{ComponentEntry}
 use Rattle.model.specs.declared.implicit_model.InputList.{InputList}
 use Rattle.model.specs.Model.{Place}
 use Rattle.rows.specs.Rows.{place_in, places_of}
@@ -11,9 +10,9 @@ use Rattle.rows.specs.Written.{Wrote}
 use Rattle.model_bytes.specs.ModelBytes.{entry_in, list_in}
 use Rattle.finding.specs.Rows.{component_at, list_place_at}
 
--- the row i of the components of a model's bytes holds c under t; there is no other change, and none where there is no such row
-pub record PutEntry (i : ℕ) (t : Tag) (c : Component) (s u : List ℕ) : Type 0 where
-  pub wrote : length s ≡ 27200 → i < 64 → Wrote (λ v. entry_in v (component_at i)) (some (t, c)) (component_at i) 88 s u
+-- the row i of the components of a model's bytes holds e; there is no other change, and none where there is no such row
+pub record PutEntry (i : ℕ) (e : ComponentEntry) (s u : List ℕ) : Type 0 where
+  pub wrote : length s ≡ 27200 → i < 64 → Wrote (λ v. entry_in v (component_at i)) (some (bytes_of e.tag, e.component)) (component_at i) 88 s u
   pub narrow : (length s ≡ 27200 → ⊥) → u ≡ s
   pub past : 64 ≤ i → u ≡ s
 

@@ -1,11 +1,13 @@
 // Places that name a tag changed, in the bytes of a model: one place, one list, every list and the default.
+// Kept: crate removing does the same in a record. A function over both stores would take a trait of a store, with laws for each.
 #![tactic(auto)]
 
 ghost use Rattle.std.specs.Prelude.{◌+◌, ◌*◌, ◌≤◌, length};
 ghost use Rattle.model.specs.View.{place_of};
 ghost use Rattle.direct_swapping.specs.Swapping.{NamesTag, PlaceSwapped, ListSwapped, Swapped};
 
-use finding::Table;
+use finding::{Table, place_text};
+use layout::model::{DEFAULT, LIST_SIZE, LISTS, MODEL_SIZE, PLACE_COUNT, PLACE_SIZE, PLACES};
 use layout::words::read_word;
 use model::implicit_model::Place;
 use rows::writing::write_place;
@@ -15,8 +17,7 @@ fn names(s: &[u8], at: usize, t: &[u8]) -> bool
     requires { at + 40 ≤ length s.now }
     ensures { NamesTag s.now at t.now result }
 {
-    let len = read_word(s, at) as usize;
-    len != 0 && len <= 33 && &s[at + 8..at + 7 + len] == t
+    place_text(s, at) == Some(t)
 }
 
 // A place, replaced where it names the tag.
@@ -34,9 +35,9 @@ fn swap_list(s: &mut [u8], j: usize, t: &[u8], p: Place)
     requires { 5864 + 168 * j ≤ length s.old }
     ensures { ListSwapped t.now (place_of p) j s.old s.new }
 {
-    let n = (read_word(s, 5736 + 168 * j) as usize).min(3);
+    let n = (read_word(s, LISTS + PLACE_COUNT + LIST_SIZE * j) as usize).min(3);
     for k in 0..n {
-        swap_place(s, 5744 + 168 * j + 40 * k, t, p);
+        swap_place(s, LISTS + PLACES + LIST_SIZE * j + PLACE_SIZE * k, t, p);
     }
 }
 
@@ -44,11 +45,11 @@ fn swap_list(s: &mut [u8], j: usize, t: &[u8], p: Place)
 pub fn swap_places(s: &mut [u8], t: &[u8], p: Place)
     ensures { Swapped t.now (place_of p) s.old s.new }
 {
-    if s.len() != 27200 {
+    if s.len() != MODEL_SIZE {
         return;
     }
     for j in 0..Table::Lists.count(s) {
         swap_list(s, j, t, p);
     }
-    swap_place(s, 24, t, p);
+    swap_place(s, DEFAULT, t, p);
 }

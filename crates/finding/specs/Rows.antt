@@ -1,5 +1,5 @@
 -- Rows of a model in bytes: where they begin, what they hold, and what is found in them. Definitions only.
-use Rattle.std.specs.Prelude.{ℕ, ◌+◌, ◌*◌, ◌<◌, ◌≡◌, ◌≢◌, min, List, Option as Answer, IfSome, IfNone}
+use Rattle.std.specs.Prelude.{ℕ, ◌+◌, ◌-◌, ◌*◌, ◌≤◌, ◌<◌, ◌≡◌, ◌≢◌, ◌⊎◌, min, List, length, take, drop, Option as Answer, IfSome, IfNone}
 use Rattle.std.proofs.Math.Option.{Option}
 use Rattle.tag.specs.Tags.{Tag}
 use Rattle.component.specs.declared.model_component.Component.{Component}
@@ -50,3 +50,13 @@ tag_of s i = text s (component_at i)
 pub record RowSought (s : List ℕ) (at : ℕ → ℕ) (n : ℕ) (t : Tag) (row : Answer ℕ) : Type 0 where
   pub found : IfSome row (λ r. (r < n) × (text s (at r) ≡ t))
   pub missing : IfNone row ((i : ℕ) → i < n → text s (at i) ≢ t)
+
+-- the place at byte `at` is assigned, and t is its tag
+pub record Tagged (s : List ℕ) (at : ℕ) (t : Tag) : Type 0 where
+  pub assigned : 0 < word s at
+  pub few : word s at ≤ 33
+  pub is : t ≡ take (word s at - 1) (drop (at + 8) s)
+
+-- the place at byte `at` is unassigned, or its bytes are more than a tag's or go past the end
+abbrev pub Untagged : List ℕ → ℕ → Type 0
+Untagged s at = (word s at ≡ 0) ⊎ (33 < word s at) ⊎ (length s < at + 7 + word s at)

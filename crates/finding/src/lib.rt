@@ -1,13 +1,15 @@
-// The rows of a model in bytes: a row found by its tag, and the component in a row.
+// The rows of a model in bytes: a row found by its tag, the component in a row, and the tag in a place.
 #![tactic(auto)]
 
-ghost use Rattle.std.specs.Prelude.{◌≡◌, ◌<◌};
+ghost use Rattle.std.specs.Prelude.{◌≡◌, ◌<◌, MatchOption};
 ghost use Rattle.component_layout.specs.Components.{component_read};
-ghost use Rattle.finding.specs.Rows.{start, size, counted, row_at, component_row, RowSought};
+ghost use Rattle.finding.specs.Rows.{start, size, counted, row_at, component_row, RowSought, Tagged, Untagged};
 
 use component::model_component::Component;
-use component_layout::component_numbers::ComponentWords;
-use component_layout::component_words::component_from;
+use component_layout::component_words::{component_from, words_at};
+use layout::model::{
+    COMPONENT, COMPONENT_COUNT, COMPONENT_SIZE, COMPONENTS, LIST_COUNT, LIST_SIZE, LISTS,
+};
 use layout::words::{read_text, read_word};
 
 // A table of rows in the bytes of a model. Each row begins with its tag.
@@ -23,8 +25,8 @@ impl Table {
         ensures { result ≡ start self }
     {
         match self {
-            Table::Components => 64,
-            Table::Lists => 5696,
+            Table::Components => COMPONENTS,
+            Table::Lists => LISTS,
         }
     }
 
@@ -33,8 +35,8 @@ impl Table {
         ensures { result ≡ size self }
     {
         match self {
-            Table::Components => 88,
-            Table::Lists => 168,
+            Table::Components => COMPONENT_SIZE,
+            Table::Lists => LIST_SIZE,
         }
     }
 
@@ -43,8 +45,8 @@ impl Table {
         ensures { result ≡ counted self s.now }
     {
         match self {
-            Table::Components => (read_word(s, 8) as usize).min(64),
-            Table::Lists => (read_word(s, 16) as usize).min(128),
+            Table::Components => (read_word(s, COMPONENT_COUNT) as usize).min(64),
+            Table::Lists => (read_word(s, LIST_COUNT) as usize).min(128),
         }
     }
 
@@ -64,13 +66,16 @@ pub fn component_in_row(s: &[u8], i: usize) -> Option<Component>
     if 64 <= i {
         return None;
     }
-    let at = 104 + 88 * i;
-    component_from(ComponentWords {
-        kind: read_word(s, at),
-        a: read_word(s, at + 8),
-        b: read_word(s, at + 16),
-        c: read_word(s, at + 24),
-        d: read_word(s, at + 32),
-        e: read_word(s, at + 40),
-    })
+    component_from(words_at(s, COMPONENTS + COMPONENT + COMPONENT_SIZE * i))
+}
+
+// The tag in a place; none where the place is unassigned, or its bytes are more than a tag's or go past the end.
+pub fn place_text(s: &[u8], at: usize) -> Option<&[u8]>
+    ensures { MatchOption result (Untagged s.now at) (λ tag. Tagged s.now at tag.now) }
+{
+    let len = read_word(s, at) as usize;
+    if len == 0 || 33 < len {
+        return None;
+    }
+    s.get(at..)?.get(8..7 + len)
 }

@@ -1,13 +1,13 @@
 -- What stands in the bytes of a model: names of components, lists of components, wires. What the functions here promise. Definitions only.
-use Rattle.std.specs.Prelude.{ℕ, ◌+◌, ◌*◌, ◌-◌, ◌≤◌, ◌<◌, ◌≡◌, ◌≢◌, ◌⊎◌, List, [], T, ⊤, length, get_or, take, drop, Option, Some, None, Result, Ok, Err}
+use Rattle.std.specs.Prelude.{ℕ, ◌+◌, ◌*◌, ◌-◌, ◌≤◌, ◌<◌, ◌≡◌, ◌≢◌, ◌⊎◌, min, false, List, [], T, ⊤, length, get_or, take, drop, Option, Some, None, Result, Ok, Err}
 use Rattle.std.proofs.Math.Option.{none, some}
-use Rattle.tag.specs.Tags.{Tag}
+use Rattle.tag.specs.Tags.{Tag, overlong}
 use Rattle.component.specs.Value.{input_count}
 use Rattle.component.specs.declared.model_component.Component.{Component}
 use Rattle.model.specs.Model.{Place, Model, component, inputs, valid}
 use Rattle.layout.specs.Words.{word, text}
 use Rattle.model_bytes.specs.ModelBytes.{model_in}
-use Rattle.finding.specs.Rows.{list_place_at, component_row, tag_of}
+use Rattle.finding.specs.Rows.{component_at, list_place_at, component_row, tag_of, RowSought}
 use Rattle.standing.specs.declared.Untold.{Untold}
 use Rattle.standing.specs.declared.Wire.{Wire}
 use Rattle.standing.specs.declared.Wire.TheVariants.{To, Past, Open}
@@ -82,3 +82,9 @@ pub record Passing (s : List ℕ) : Type 0 where
   pub model : Model
   pub is : model_in s ≡ some model
   pub sound : T (valid model)
+
+-- so; and t, which is no longer than a tag may be, stands in the row r of its components
+pub record RowOfComponent (s : List ℕ) (t : Tag) (r : ℕ) : Type 0 where
+  pub passing : Passing s
+  pub short : overlong t ≡ false
+  pub row : RowSought s component_at (min (word s 8) 64) t (Some r)

@@ -1,18 +1,23 @@
-// 7 straight from the bytes of a model, and the wires: which component stands in each place of a component's list. It may refuse a model that 7 lets pass, and lets none pass that 7 refuses.
+// 7 straight from the bytes of a model, the row of a component, and the wires: which component stands in each place of a component's list. It may refuse a model that 7 lets pass, and lets none pass that 7 refuses.
 #![tactic(auto)]
 
 mod names;
 
 ghost use Rattle.std.specs.Prelude.{◌≡◌, true, ◌+◌, ◌*◌, ◌≤◌, ◌<◌, min, length, get_or, IfSome};
 ghost use Rattle.layout.specs.Words.{word};
-ghost use Rattle.standing.specs.Standing.{Names, PlaceNames, Listing, Filled, DefaultNamed, Stood, Owned, Wires, Stands, Passing};
+ghost use Rattle.standing.specs.Standing.{Names, PlaceNames, Listing, Filled, DefaultNamed, Stood, Owned, Wires, Stands, Passing, RowOfComponent};
 
 use crate::names::{Keys, key};
-use finding::{Table, component_in_row};
+use finding::{Table, component_in_row, place_text};
+use layout::model::{
+    COMPONENT_SIZE, COMPONENTS, DEFAULT, LIST_SIZE, LISTS, PLACE_COUNT, PLACE_SIZE, PLACES,
+};
 use layout::words::{read_text, read_word};
 use model_holding::holds::holds;
+use tag::Tag;
 
 // What stands in a place of a component's list.
+// Kept: no type shared with nodes' Wire, where an unassigned place and a tag that is not found are two cases, and one here.
 #[derive(Clone, Copy)]
 pub enum Wire {
     // It is unassigned, or no component is found that it names.
@@ -27,24 +32,25 @@ pub enum Wire {
 #[derive(Clone, Copy)]
 struct Untold;
 
-// The components of a model in bytes, by the keys of their tags.
+// The components of a model in bytes, and their lists, by the keys of their tags.
 #[derive(Clone, Copy)]
 struct Components<'a> {
     bytes: &'a [u8],
     keys: &'a Keys,
+    lists: &'a Keys,
 }
 
-// The row with that tag, by the keys of the rows, of which its own is given.
+// The row with that tag, sought by the tag's key among the keys of the rows.
 fn keyed(bytes: &[u8], keys: &[u64], key: u64, tag: &[u8]) -> Option<usize>
     requires { length keys.now ≤ 128 }
     ensures { IfSome result (Names bytes.now (length keys.now) tag.now) }
 {
     let i = keys.iter().position(|k| *k == key)?;
-    (read_text(bytes, 64 + 88 * i) == tag).then_some(i)
+    (read_text(bytes, COMPONENTS + COMPONENT_SIZE * i) == tag).then_some(i)
 }
 
 // The row of a tag in a model's bytes, by the keys of the first n rows: any keys will do. None too where n is past the table.
-// Kept: an array and a count, for memory is fixed, and a count past the table is legal input.
+// Kept: it answers of any keys and any count, as it did before there was a `Standing`, and a type for both would ask more of callers; only `Standing::row_of` calls it today.
 pub fn component_of_tag(bytes: &[u8], keys: &[u64; 128], n: usize, tag: &[u8]) -> Option<usize>
     ensures { IfSome result (Names bytes.now (min n 64) tag.now) }
 {
@@ -60,11 +66,7 @@ impl<'a> Components<'a> {
         requires { at < 27200 }
         ensures { IfSome result (PlaceNames self.now.bytes.now self.now.keys.now.count at) }
     {
-        let len = read_word(self.bytes, at) as usize;
-        if len == 0 || 33 < len {
-            return None;
-        }
-        let tag = self.bytes.get(at + 8..at + 7 + len)?;
+        let tag = place_text(self.bytes, at)?;
         keyed(
             self.bytes,
             self.keys.as_slice(),
@@ -77,23 +79,23 @@ impl<'a> Components<'a> {
     fn default_stands(&self) -> bool
         ensures { result ≡ true → DefaultNamed self.now.bytes.now self.now.keys.now.count }
     {
-        read_word(self.bytes, 24) == 0 || self.named_at(24).is_some()
+        read_word(self.bytes, DEFAULT) == 0 || self.named_at(DEFAULT).is_some()
     }
 
     // The row of the list of the component in a row.
-    fn list_of(&self, lists: &Keys, i: usize) -> Result<Option<usize>, Untold>
+    fn list_of(&self, i: usize) -> Result<Option<usize>, Untold>
         requires { i < 128 }
-        ensures { Listing self.now.bytes.now lists.now.of lists.now.count (get_or self.now.keys.now.of i 0) i result }
+        ensures { Listing self.now.bytes.now self.now.lists.now.of self.now.lists.now.count (get_or self.now.keys.now.of i 0) i result }
     {
-        let Some(j) = lists.row_of(self.keys.of[i]) else {
+        let Some(j) = self.lists.row_of(self.keys.of[i]) else {
             return Ok(None);
         };
-        let list = read_text(self.bytes, 5696 + 168 * j);
-        let component = read_text(self.bytes, 64 + 88 * i);
+        let list = read_text(self.bytes, LISTS + LIST_SIZE * j);
+        let component = read_text(self.bytes, COMPONENTS + COMPONENT_SIZE * i);
         (list == component).then_some(Some(j)).ok_or(Untold)
     }
 
-    // The component in a place of a list, which has so many.
+    // What stands in place p of a list that has `places` places.
     fn wire(&self, list: usize, places: u64, p: usize) -> Wire
         requires { (list < 128) × (p < 3) × (places ≡ word self.now.bytes.now (5736 + 168 * list)) }
         ensures { Stood self.now.bytes.now self.now.keys.now.count list p result }
@@ -101,39 +103,41 @@ impl<'a> Components<'a> {
         if places <= p as u64 {
             return Wire::Past;
         }
-        match self.named_at(5744 + 168 * list + 40 * p) {
+        match self.named_at(LISTS + PLACES + LIST_SIZE * list + PLACE_SIZE * p) {
             Some(row) => Wire::To(row as u8),
             None => Wire::Open,
         }
     }
 
     // The wires of the component in a row, where its list has as many places as it takes inputs.
-    fn wires_of(&self, lists: &Keys, i: usize) -> Option<[Wire; 3]>
+    fn wires_of(&self, i: usize) -> Option<[Wire; 3]>
         requires { i < 64 }
-        ensures { IfSome result (Owned self.now.bytes.now self.now.keys.now.count lists.now.of lists.now.count (get_or self.now.keys.now.of i 0) i) }
+        ensures { IfSome result (Owned self.now.bytes.now self.now.keys.now.count self.now.lists.now.of self.now.lists.now.count (get_or self.now.keys.now.of i 0) i) }
     {
         let n = component_in_row(self.bytes, i)?.input_count();
-        let Some(list) = self.list_of(lists, i).ok()? else {
-            return if n == 0 { Some([Wire::Past; 3]) } else { None };
+        let Some(list) = self.list_of(i).ok()? else {
+            return (n == 0).then_some([Wire::Past; 3]);
         };
-        let places = read_word(self.bytes, 5736 + 168 * list);
+        let places = read_word(self.bytes, LISTS + PLACE_COUNT + LIST_SIZE * list);
         if n != 0 && places != n as u64 {
             return None;
         }
-        let first = self.wire(list, places, 0);
-        let second = self.wire(list, places, 1);
-        let third = self.wire(list, places, 2);
-        Some([first, second, third])
+        // Kept: tried by `map` over the three places; the goal `map-requires` stayed open.
+        Some([
+            self.wire(list, places, 0),
+            self.wire(list, places, 1),
+            self.wire(list, places, 2),
+        ])
     }
 
     // The wires of all.
-    fn wires(&self, lists: &Keys) -> Option<[[Wire; 3]; 64]>
+    fn wires(&self) -> Option<[[Wire; 3]; 64]>
         requires { self.now.keys.now.count ≤ 64 }
-        ensures { IfSome result (Wires self.now.bytes.now self.now.keys.now.count lists.now.of lists.now.count self.now.keys.now.of) }
+        ensures { IfSome result (Wires self.now.bytes.now self.now.keys.now.count self.now.lists.now.of self.now.lists.now.count self.now.keys.now.of) }
     {
         let mut wires = [[Wire::Past; 3]; 64];
         for i in 0..self.keys.count {
-            wires[i] = self.wires_of(lists, i)?;
+            wires[i] = self.wires_of(i)?;
         }
         Some(wires)
     }
@@ -144,18 +148,24 @@ fn are_filled(s: &[u8], n: usize) -> bool
     requires { n ≤ 128 }
     ensures { result ≡ true → Filled s.now n }
 {
-    (0..n).all(|j| read_word(s, 5736 + 168 * j) != 0)
+    (0..n).all(|j| read_word(s, LISTS + PLACE_COUNT + LIST_SIZE * j) != 0)
 }
 
-// The components of a model that 7 lets pass, by the keys of their tags, and three wires for each.
+// Three wires for each component.
+// Kept: a struct of its own; the borrow checker has no rule for an array of arrays beside a reference in one struct, as it would stand in `Standing`.
 #[derive(Clone, Copy)]
-pub struct Standing {
+pub struct Wiring(pub [[Wire; 3]; 64]);
+
+// The bytes of a model that 7 lets pass, with its components by the keys of their tags, and three wires for each.
+#[derive(Clone, Copy)]
+pub struct Standing<'a> {
+    pub bytes: &'a [u8],
     keys: Keys,
-    pub wires: [[Wire; 3]; 64],
+    pub wires: Wiring,
     ghost few: { keys.count ≤ 64 },
 }
 
-impl Standing {
+impl<'a> Standing<'a> {
     // How many components there are.
     pub fn count(&self) -> usize
         ensures { result ≡ self.now.keys.count }
@@ -163,17 +173,17 @@ impl Standing {
         self.keys.count
     }
 
-    // The row of a tag in the model's bytes.
-    pub fn row_of(&self, bytes: &[u8], tag: &[u8]) -> Option<usize>
-        ensures { IfSome result (Names bytes.now self.now.keys.count tag.now) }
+    // The row of a tag.
+    pub fn row_of(&self, tag: &[u8]) -> Option<usize>
+        ensures { IfSome result (Names self.now.bytes.now self.now.keys.count tag.now) }
     {
-        component_of_tag(bytes, &self.keys.of, self.keys.count, tag)
+        component_of_tag(self.bytes, &self.keys.of, self.keys.count, tag)
     }
 }
 
 // A model that 7 lets pass, with its wires.
 pub fn wired(s: &[u8]) -> Option<Standing>
-    ensures { IfSome result (λ w. Stands s.now w.keys.count w.wires) }
+    ensures { IfSome result (λ w. (w.bytes.now ≡ s.now) × Stands s.now w.keys.count w.wires.0) }
 {
     if !holds(s) {
         return None;
@@ -186,12 +196,17 @@ pub fn wired(s: &[u8]) -> Option<Standing>
     let components = Components {
         bytes: s,
         keys: &keys,
+        lists: &lists,
     };
     if !components.default_stands() {
         return None;
     }
-    let wires = components.wires(&lists)?;
-    Some(Standing { keys, wires })
+    let wires = components.wires()?;
+    Some(Standing {
+        bytes: s,
+        keys,
+        wires: Wiring(wires),
+    })
 }
 
 // Whether the bytes hold a model that 7 lets pass. A yes is right.
@@ -199,4 +214,15 @@ pub fn stands(s: &[u8]) -> bool
     ensures { result ≡ true → Passing s.now }
 {
     wired(s).is_some()
+}
+
+// The row of a component, where the bytes hold a model that 7 lets pass, and the tag is no longer than one may be.
+pub fn row_of_component(s: &[u8], tag: &[u8]) -> Option<usize>
+    ensures { IfSome result (RowOfComponent s.now tag.now) }
+{
+    if !stands(s) {
+        return None;
+    }
+    Tag::try_from(tag).ok()?;
+    Table::Components.row_of(s, tag)
 }

@@ -59,6 +59,7 @@ impl Keys {
     pub(crate) fn are_apart(&self) -> bool
         ensures { result ≡ true → Apart self.now.of self.now.count }
     {
+        // Kept: by `split_first` it would be a loop over what is left of the slice, and by `enumerate` the slice up to a row is still taken by its number.
         (0..self.count).all(|i| !self.of[..i].contains(&self.of[i]))
     }
 }

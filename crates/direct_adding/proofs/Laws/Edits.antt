@@ -1,7 +1,7 @@
 -- An edit's outcome where nothing refuses it, and what then is to be shown of the bytes. Assumes nothing.
 use Prim.Native.Nat.{ℕ, ◌<◌}
-use mathlib.Core.Path.{◌≡◌, sym, ap, subst, ◌∙◌}
-use mathlib.Core.Bool.{Bool, true, false, not}
+use mathlib.Core.Path.{◌≡◌, refl, sym, ap, subst, ◌∙◌}
+use mathlib.Core.Bool.{true, false}
 use mathlib.Core.List.{List}
 use mathlib.Core.Option.{none, some}
 use lib.Dec.{T}
@@ -41,7 +41,7 @@ took_by e {m = m} {n = n} {cs = cs} {ls = ls} i v q w b c r =
     (ap (λ (x : Outcome). x.model.default) o) r
 
 module _ (m : Model) (t : Tag) (c : Component) where
-  pub plain_is : (fits : Bool) → overlong t ≡ false → fits ≡ true → find t m.components ≡ none → length m.components < 64 → add_plain m t c fits ≡ record { answer = made t; model = with_component m t c t }
+  pub plain_is : overlong t ≡ false → find t m.components ≡ none → length m.components < 64 → add_plain m t c true ≡ record { answer = made t; model = with_component m t c t }
   unfolding add_plain
-  plain_is fits s f n r =
-      pass m (overlong t) 1 empty 0 _ s ∙ (pass m (not fits) 4 t 0 _ (ap not f) ∙ (pass m (held t m.components) 11 t 0 _ (unheld t m.components n) ∙ pass m (full m) 15 empty 0 _ (has_room m r)))
+  plain_is s n r =
+      pass m (overlong t) 1 empty 0 _ s ∙ (pass m false 4 t 0 _ refl ∙ (pass m (held t m.components) 11 t 0 _ (unheld t m.components n) ∙ pass m (full m) 15 empty 0 _ (has_room m r)))

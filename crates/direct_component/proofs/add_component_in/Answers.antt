@@ -1,6 +1,6 @@
 -- `direct_component::add_component_in` meets its contract. Assumes nothing.
 use mathlib.Core.Path.{sym, ◌∙◌}
-use Rattle.direct_adding.proofs.Laws.Plain.{fitted}
+use Rattle.standing.proofs.Laws.Checks.{fitted}
 use Rattle.direct_component.proofs.Laws.Component.{unassigned, component-more, component-listed}
 use Rattle.direct_component.proofs.add_component_in.Goals as goal
 

@@ -3,7 +3,7 @@ use mathlib.Core.Path.{sym, ap, ◌∙◌}
 use Rattle.input_rows.specs.Inputs.{fitting}
 use Rattle.direct_rows.proofs.Laws.Parts.{whole}
 use Rattle.direct_rows.proofs.Laws.Found.{component-missing, unsought}
-use Rattle.direct_adding.proofs.Laws.Plain.{fitted}
+use Rattle.standing.proofs.Laws.Checks.{fitted}
 use Rattle.direct_operation.proofs.Laws.Operation.{asked_row, operation_listed}
 use Rattle.direct_operation.proofs.add_operation_in.Goals as goal
 

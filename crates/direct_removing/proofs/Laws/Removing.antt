@@ -50,7 +50,7 @@ use Rattle.direct_swapping.proofs.Laws.Swapped.{swapped_whole, swapped_spares}
 -- ---- the last row moved
 
 module _ {i last : ℕ} {s : List ℕ} where
-  pub moved-over : {u : List ℕ} (l : Label) (c : Component) → i < 64 → i ≢ last → some c ≡ component_row s last → Made (take 32 (text s (component_at last))) l → PutEntry i (bytes_of l) c s u → LastMoved i last s u true
+  pub moved-over : {u : List ℕ} (l : Label) (c : Component) → i < 64 → i ≢ last → some c ≡ component_row s last → Made (take 32 (text s (component_at last))) l → PutEntry i (record { tag = l; component = c }) s u → LastMoved i last s u true
   moved-over {u} l c h n r k p = record {
     moved = λ y size x e. (p.wrote size h).holds ∙ ap some (row x e);
     kept = within (ℕ_discrete (length s) 27200);

@@ -8,6 +8,6 @@ use Rattle.direct_removing.proofs.move_last.Goals as goal
 
 pub returns : goal.returns
 returns c =
-    moved-over c.tag_of-t.result c.in_ok-c.c c.requires.0 c.if-i-last.false (c.in_ok-c.ensures c.requires.1)
-    (subst (λ (x : Tag). Made (take 32 x) c.tag_of-t.result) c.read_text.ensures c.tag_of-t.ensures)
+    moved-over c.tag_of-tag.result c.in_ok-component.component c.requires.0 c.if-i-last.false (c.in_ok-component.ensures c.requires.1)
+    (subst (λ (x : Tag). Made (take 32 x) c.tag_of-tag.result) c.read_text.ensures c.tag_of-tag.ensures)
     c.put_entry.ensures

@@ -1,5 +1,5 @@
 -- Each way out of `rename_component_in`. Assumes nothing.
-use Rattle.std.specs.Prelude.{Option, Some, None, IfSome}
+use Rattle.std.specs.Prelude.{Option, Some, None}
 use Prim.Native.Nat.{ℕ, ◌+◌, ◌*◌, ◌≤◌, ◌<◌, min}
 use native.Mathlib.Omega.{arith}
 use mathlib.Core.Path.{◌≡◌, refl, sym, ap, subst, ◌∙◌}
@@ -26,7 +26,7 @@ use Rattle.rows.specs.Rows.{tag_in}
 use Rattle.rows.specs.Written.{Writes}
 use Rattle.model_bytes.specs.Calls.{Spares}
 use Rattle.finding.specs.Rows.{component_at, list_place_at, RowSought}
-use Rattle.standing.specs.Standing.{Passing}
+use Rattle.standing.specs.Standing.{RowOfComponent}
 use Rattle.direct_rows.specs.Took.{Took}
 use Rattle.direct_rows.proofs.Laws.Parts.{Whole, whole}
 use Rattle.direct_rows.proofs.Laws.Found.{components-length, lists_length, component-found, component-missing, list-found, list-missing, unheld}
@@ -123,7 +123,5 @@ module _ {s : List ℕ} (t u : Tag) {i : ℕ} (b : Renamable s t u i) (row : Opt
 
 -- ---- what the helpers answer
 
-pub renamable : {s : List ℕ} {t u : Tag} (row : Option ℕ) → Passing s → overlong t ≡ false → overlong u ≡ false → RowSought s component_at (min (word s 8) 64) u None → RowSought s list_place_at (min (word s 16) 128) u None
-    → RowSought s component_at (min (word s 8) 64) t row → IfSome row (Renamable s t u)
-renamable {t = t} {u = u} (Some r) p a b c d q = record { passing = p; short = short-length t a; short_new = short-length u b; free = c.missing; free-list = d.missing; row = q }
-renamable None p a b c d q = tt
+pub renamable : {s : List ℕ} {t u : Tag} {r : ℕ} → RowOfComponent s t r → overlong u ≡ false → RowSought s component_at (min (word s 8) 64) u None → RowSought s list_place_at (min (word s 16) 128) u None → Renamable s t u r
+renamable {t = t} {u = u} p b c d = record { passing = p.passing; short = short-length t p.short; short_new = short-length u b; free = c.missing; free-list = d.missing; row = p.row }

@@ -1,5 +1,5 @@
 -- `rename_component_in` meets its contract. Assumes nothing.
-use Rattle.direct_swapping.proofs.Laws.Fitted.{fitted}
+use Rattle.standing.proofs.Laws.Checks.{fitted}
 use Rattle.direct_renaming.proofs.Laws.Renaming.{rename-done}
 use Rattle.direct_renaming.proofs.rename_component_in.Goals as goal
 

@@ -17,7 +17,7 @@ use Rattle.direct_rows.specs.Rows.{PutEntry, PutList}
 
 module _ {s : List ℕ} (size : length s ≡ 27200) where
   pub entry-put : (e : ComponentEntry) {i : ℕ} {t u : List ℕ} → i < 64 → Writes (λ v. tag_in v (component_at i)) (some (bytes_of e.tag)) (component_at i) 40 s t
-      → Writes (λ v. component_in v (component_at i + 40)) (some e.component) (component_at i + 40) 48 t u → PutEntry i (bytes_of e.tag) e.component s u
+      → Writes (λ v. component_in v (component_at i + 40)) (some e.component) (component_at i + 40) 48 t u → PutEntry i e s u
   entry-put e h p q =
       let w = p.wrote (omega arith) in
       record {

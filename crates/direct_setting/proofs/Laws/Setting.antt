@@ -1,19 +1,16 @@
 -- A parameter set in the bytes: the model that they then hold. Assumes nothing.
-use Rattle.std.specs.Prelude.{Result, Ok, Err, Some, MatchResult}
+use Rattle.std.specs.Prelude.{Result, Ok, Err, Some}
 use Rattle.std.specs.Result.{result_ok}
-use Prim.Native.Nat.{ℕ, ◌+◌, ◌*◌, ◌<◌, min}
+use Prim.Native.Nat.{ℕ, ◌+◌, ◌*◌, ◌<◌}
 use native.Mathlib.Omega.{arith}
 use mathlib.Core.Path.{◌≡◌, sym, ap, subst, ◌∙◌}
-use mathlib.Core.Bool.{false, true}
+use mathlib.Core.Bool.{false}
 use mathlib.Core.List.{List, []}
 use mathlib.Core.Option.{Option, some}
 use lib.Dec.{T}
 use lib.Ieee.{nan}
 use lib.ListN.{length, get_or, set}
-use Rattle.tag.specs.declared.Tag.{Tag as Label}
-use Rattle.tag.specs.declared.TagTooLong.{TagTooLong}
 use Rattle.tag.specs.Tags.{Tag, empty, overlong}
-use Rattle.tag.specs.View.{Made}
 use Rattle.component.specs.Parameter.{Name, set_parameter as parameterSet}
 use Rattle.component.specs.declared.parameter.Data.{Data}
 use Rattle.component.specs.declared.parameter.ParameterError.{ParameterError}
@@ -31,8 +28,8 @@ use Rattle.rows.specs.Written.{Wrote, Writes}
 use Rattle.rows.proofs.Laws.Local.{tag_local}
 use Rattle.model_bytes.specs.ModelBytes.{entry_row}
 use Rattle.model_bytes.proofs.Laws.Reading.{entry_is}
-use Rattle.finding.specs.Rows.{component_at, component_row, RowSought}
-use Rattle.standing.specs.Standing.{Passing}
+use Rattle.finding.specs.Rows.{component_at, component_row}
+use Rattle.standing.specs.Standing.{Passing, RowOfComponent}
 use Rattle.standing.proofs.Laws.Rows.{built_get_d}
 use Rattle.direct_rows.specs.Took.{Took}
 use Rattle.direct_rows.proofs.Laws.Parts.{Whole, whole, entry_parts}
@@ -50,11 +47,6 @@ component-put {s} {t} i k e p =
 blank : Tag × Component
 blank = ([], Constant nan)
 
--- bytes that a tag is made of are not too many for one
-pub fitted : (t : Tag) {x : Label} (r : Result Label TagTooLong) → MatchResult r (λ y. (overlong t ≡ false) × Made t y) (λ _. overlong t ≡ true) → Some x ≡ result_ok r → overlong t ≡ false
-fitted t (Ok y) m e = m.0
-fitted t (Err z) m e = cc
-
 -- the component that a change answers
 pub changed : {r : Result Component ParameterError} {k : Component} (x : Result Component ParameterError) → x ≡ r → Some k ≡ result_ok x → r ≡ Ok k
 changed (Ok y) m e = let q : y ≡ _ = cc in sym m ∙ ap Ok q
@@ -69,8 +61,11 @@ set-edit m t n x {c} {k} short e p =
     ∙ ap (λ (o : Option Component). set_in m t n x o) e
     ∙ ap (settle m t) p
 
-module _ {s t : List ℕ} (g : Passing s) (tag : Tag) (n : Name) (x : Data) (i : ℕ) (sought : RowSought s component_at (min (word s 8) 64) tag (Some i)) (short : overlong tag ≡ false)
+module _ {s t : List ℕ} (tag : Tag) (n : Name) (x : Data) (i : ℕ) (there : RowOfComponent s tag i)
     (c k : Component) (row : component_row s i ≡ some c) (change : parameterSet c n x ≡ Ok k) (writes : Writes (λ u. component_in u (104 + 88 * i)) (some k) (104 + 88 * i) 48 s t) where
+  g : Passing s
+  g = there.passing
+
   w : Whole s g.model
   w = whole g.is
 
@@ -81,24 +76,24 @@ module _ {s t : List ℕ} (g : Passing s) (tag : Tag) (n : Name) (x : Data) (i :
   once = (good g.model g.sound).once
 
   at : (i < word s 8) × ((get_or g.model.components i blank).0 ≡ tag)
-  at = component-found w blank sought
+  at = component-found w blank there.row
 
   below : i < length g.model.components
   below = omega (arith, at.0, components-length w)
 
   found : component g.model tag ≡ some c
-  found = component-held w blank once sought ∙ sym (entry_at w blank i at.0).component ∙ row
+  found = component-held w blank once there.row ∙ sym (entry_at w blank i at.0).component ∙ row
 
   result : apply (set_parameter tag n x) g.model ≡ record { answer = done; model = record { components = put tag k g.model.components; lists = g.model.lists; default = g.model.default } }
-  result = applied (set_parameter tag n x) g.model g.sound ∙ set-edit g.model tag n x short found change
+  result = applied (set_parameter tag n x) g.model g.sound ∙ set-edit g.model tag n x there.short found change
 
-  there : Whole t (record { components = set g.model.components i (tag, k); lists = g.model.lists; default = g.model.default })
-  there = entry-written w i (tag, k) at.0 (kept-within (component_at i) 88 wrote.kept (omega arith) (omega arith))
+  written : Whole t (record { components = set g.model.components i (tag, k); lists = g.model.lists; default = g.model.default })
+  written = entry-written w i (tag, k) at.0 (kept-within (component_at i) 88 wrote.kept (omega arith) (omega arith))
       (component-put i k (built_get_d w.components blank i at.0) wrote ∙ ap (λ (a : Tag). some (a, k)) at.1)
 
   pub parameter_set : Took (set_parameter tag n x) done s t
   parameter_set =
-      took (set_parameter tag n x) g.is g.sound (ap (λ (o : Outcome). o.answer) result) there
+      took (set_parameter tag n x) g.is g.sound (ap (λ (o : Outcome). o.answer) result) written
       (subst (λ (r : Table Component). Becomes r (set g.model.components i (tag, k))) (sym (ap (λ (o : Outcome). o.model.components) result)) (overwritten blank g.model.components i tag k once below at.1))
       (subst (λ (r : Table (List Place)). Becomes r g.model.lists) (sym (ap (λ (o : Outcome). o.model.lists) result)) (becomes_refl (good g.model g.sound).once-lists))
       (ap (λ (o : Outcome). o.model.default) result)

@@ -1,14 +1,16 @@
 -- Places that name a tag changed, in bytes. Assumes nothing.
-use Rattle.std.specs.Prelude.{nat_eq}
+use Rattle.std.specs.Prelude.{Option as Answer, Some, None, MatchOption, nat_eq}
+use Rattle.std.specs.Option.{option_eq}
 use Rattle.std.specs.Cmp.Lexicographic.{pointwise, same_text, other_text}
 use Prim.Native.Nat.{ℕ, suc, ◌+◌, ◌*◌, ◌-◌, ◌≤◌, ◌<◌, min}
 use native.Mathlib.Omega.{arith}
 use mathlib.Core.Path.{◌≡◌, refl, sym, ap, ◌∙◌}
-use mathlib.Core.Logic.{◌≢◌, ◌⊎◌, inl, inr}
+use mathlib.Core.Logic.{◌≢◌, inl, inr}
 use mathlib.Core.Bool.{Bool, true, false, cond, true≢false}
 use mathlib.Core.List.{List}
 use mathlib.Core.Option.{Option, none, some, map}
-use lib.ListN.{length, take, drop}
+use lib.ListN.{length}
+use denote.Bor.{Bor}
 use Rattle.tag.specs.Tags.{Tag}
 use Rattle.tag.proofs.Laws.Is.{is_refl, is_false}
 use Rattle.model.specs.Model.{Place}
@@ -21,6 +23,7 @@ use Rattle.rows.specs.Rows.{place_from, place_in, place_row}
 use Rattle.rows.specs.Written.{Wrote}
 use Rattle.rows.proofs.Laws.Local.{blank_local, tag_local, place_local}
 use Rattle.rows.proofs.Laws.Reading.{text-long}
+use Rattle.finding.specs.Rows.{Tagged, Untagged}
 use Rattle.model_bytes.specs.ModelBytes.{list_row}
 use Rattle.model_bytes.proofs.Laws.Reading.{list_is}
 use Rattle.model_bytes.proofs.Laws.Local.{list_local}
@@ -39,28 +42,22 @@ place_from_long n s at h =
     let z : n ≡ suc (n - 1) = omega arith in
     ap (λ (k : ℕ). place_from k s at) z ∙ ap (map some) (text-long (n - 1) s at (omega arith))
 
-module _ (s : List ℕ) (at : ℕ) (t : Tag) {n : ℕ} (w : n ≡ word s at) where
-  pub names_none : ((n ≡ 0 → ⊥) × (33 < n)) ⊎ (n ≡ 0) → {b : Bool} → b ≡ false → NamesTag s at t b
+module _ (s : List ℕ) (at : ℕ) (t : Bor (List ℕ)) (room : at + 40 ≤ length s) where
+  unnamed : Untagged s at → (q : Place) → place_in s at ≡ some q → q ≡ some t.now → ⊥
   unfolding place_in
-  names_none h f = record { yes = λ e. absurd (true≢false (sym e ∙ f)); no = λ e q p r. unnamed h q p r }
-    where
-      unnamed : ((n ≡ 0 → ⊥) × (33 < n)) ⊎ (n ≡ 0) → (q : Place) → place_in s at ≡ some q → q ≡ some t → ⊥
-      unnamed (inr z) q p r = none_some (sym (place_unnamed s at (sym w ∙ z) p) ∙ r)
-      unnamed (inl (z, l)) q p r = none_some (sym (place_from_long (word s at) s (at + 8) (omega (arith, w))) ∙ p)
+  unnamed (inl z) q p r = none_some (sym (place_unnamed s at z p) ∙ r)
+  unnamed (inr (inl l)) q p r = none_some (sym (place_from_long (word s at) s (at + 8) l) ∙ p)
+  unnamed (inr (inr l)) q p r = none_some (sym (place_from_long (word s at) s (at + 8) (omega (arith, room))) ∙ p)
 
-  pub names_by : (n ≡ 0 → ⊥) → {b : Bool} → b ≡ pointwise nat_eq (take (at + 7 + n - (at + 8)) (drop (at + 8) s)) t → NamesTag s at t b
-  names_by z {b} e = record {
-    yes = λ y q p. named q p ∙ ap some (same_text here t (sym y ∙ e));
-    no = λ y q p r. other_text here t (sym y ∙ e) (some_some (sym (named q p) ∙ r));
+  pub names_by : (o : Answer (Bor (List ℕ))) → MatchOption o (Untagged s at) (λ x. Tagged s at x.now) → {b : Bool} → b ≡ option_eq (λ x y. pointwise nat_eq x.now y.now) o (Some t) → NamesTag s at t.now b
+  names_by None h e = record { yes = λ y. absurd (true≢false (sym y ∙ e)); no = λ y. unnamed h }
+  names_by (Some x) h e = record {
+    yes = λ y q p. named q p ∙ ap some (same_text x.now t.now (sym y ∙ e));
+    no = λ y q p r. other_text x.now t.now (sym y ∙ e) (some_some (sym (named q p) ∙ r));
   }
     where
-      here : Tag
-      here = take (at + 7 + n - (at + 8)) (drop (at + 8) s)
-
-      named : (q : Place) → place_in s at ≡ some q → q ≡ some (take (at + 7 + n - (at + 8)) (drop (at + 8) s))
-      named q p =
-          let x : word s at - 1 ≡ at + 7 + n - (at + 8) = omega (arith, w, z) in
-          place-named s at (omega (arith, w, z)) p ∙ ap (λ (k : ℕ). some (take k (drop (at + 8) s))) x
+      named : (q : Place) → place_in s at ≡ some q → q ≡ some x.now
+      named q p = place-named s at h.assigned p ∙ ap some (sym h.is)
 
 -- ---- one place
 

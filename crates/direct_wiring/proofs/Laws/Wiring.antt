@@ -1,10 +1,9 @@
 -- `remove_input` and `add_input` in the bytes, where nothing refuses them. Assumes nothing.
-use Rattle.std.specs.Prelude.{Result, Ok, Err, Some, None, MatchResult}
-use Rattle.std.specs.Result.{result_ok}
+use Rattle.std.specs.Prelude.{Some, None}
 use Prim.Native.Nat.{ℕ, ◌<◌, min}
 use native.Mathlib.Omega.{arith}
 use mathlib.Core.Path.{◌≡◌, refl, sym, ap, subst, ◌∙◌}
-use mathlib.Core.Bool.{Bool, true, false, not}
+use mathlib.Core.Bool.{Bool, false, not}
 use mathlib.Core.List.{List, []}
 use mathlib.Core.Option.{Option, none, some}
 use lib.Dec.{leb}
@@ -12,7 +11,6 @@ use lib.Ieee.{nan}
 use lib.ListN.{length, get_or, set}
 use borrow.Author.Tests.{lt-leb}
 use Rattle.tag.specs.declared.Tag.{Tag as Label}
-use Rattle.tag.specs.declared.TagTooLong.{TagTooLong}
 use Rattle.tag.specs.Tags.{Tag, empty, overlong}
 use Rattle.tag.specs.View.{Made}
 use Rattle.component.specs.declared.model_component.Component.{Component}
@@ -62,13 +60,6 @@ wired_in m t u p {l} short-t short-u a b e h walk =
     ∙ ap (λ (x : Option (List Place)). wire_in m t u p x) e
     ∙ pass m (leb (length l) p) 3 t p _ (lt-leb (length l) p h)
     ∙ ap (walked m t o) walk
-
--- ---- what the tags are
-
--- the tag of these bytes, which are not too many for one
-pub fitted : {t : Tag} {x : Label} (r : Result Label TagTooLong) → MatchResult r (λ y. (overlong t ≡ false) × Made t y) (λ _. overlong t ≡ true) → Some x ≡ result_ok r → (overlong t ≡ false) × Made t x
-fitted {t} {x} (Ok y) m e = let q : y ≡ x = cc in subst (λ (z : Label). (overlong t ≡ false) × Made t z) q m
-fitted (Err z) m e = cc
 
 -- ---- what their places are
 

@@ -3,4 +3,4 @@ use Rattle.direct.proofs.Laws.Numbers.{Worked}
 use Rattle.direct.proofs.along.number_along.Given as goal
 
 abbrev pub invariant-loop-x : goal.invariant-loop-x
-invariant-loop-x l = Worked l.s l.standing.keys.count l.standing.wires l.p l.numbers
+invariant-loop-x l = Worked l.standing.bytes.now l.standing.keys.count l.standing.wires.0 l.p l.numbers

@@ -17,4 +17,4 @@ returns c =
       | else-n-ne0-via-then-n-ne0+else-places-n w ↦ inr (takes _ _ row c.input_count-n.ensures (sym w.if-places-n.false ∙ c.read_word-places.ensures))
       | else-n-ne0-via-else-n-ne0 w ↦ inl (takes _ _ row c.input_count-n.ensures w.if-n-ne0.false)
     ])
-    (three _ c.wire-first.ensures c.wire-second.ensures c.wire-third.ensures)
+    (three _ c.wire.ensures c.wire-2.ensures c.wire-3.ensures)

@@ -1,6 +1,7 @@
--- `remove_in` meets its contract. Assumes nothing.
-use Rattle.direct_wiring.proofs.Laws.Wiring.{fitted, input_removed}
-use Rattle.direct_wiring.proofs.remove_in.Goals as goal
+-- `remove_input_in` meets its contract. Assumes nothing.
+use Rattle.standing.proofs.Laws.Checks.{fitted}
+use Rattle.direct_wiring.proofs.Laws.Wiring.{input_removed}
+use Rattle.direct_wiring.proofs.remove_input_in.Goals as goal
 
 pub returns : goal.returns
 returns c =
