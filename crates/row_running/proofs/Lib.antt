@@ -1,2 +1,2 @@
--- `Laws` is what the functions' proofs cite, here and in the crates above.
-pub mod Laws
+-- What the functions' proofs cite.
+mod Laws

@@ -1,17 +1,17 @@
 -- What a function promises that runs a list of edits and asks a form after it: document 01's demand 3, and every other case. Definitions only.
-use Rattle.std.specs.Prelude.{◌≡◌, true, false, List, Float}
+use Rattle.std.specs.Prelude.{◌≡◌, true, false, ℕ, List, Float, Result}
 use Rattle.std.proofs.Math.Option.{Option, none, some}
 use Rattle.std.specs.Float.{binary64}
 use Rattle.std.specs.Float.Ieee.{to_bits}
 use Rattle.tag.specs.Tags.{Tag, empty}
 use Rattle.geometry.specs.declared.vec3f.Vec3.{Vec3}
 use Rattle.model.specs.declared.implicit_model.Model.{Model as Record}
+use Rattle.model.specs.declared.model_error.Refusal.{Refusal}
 use Rattle.model.specs.Model.{Same}
 use Rattle.model.specs.Edit.{Edit}
 use Rattle.model.specs.Form.{Compiles, Number, Reply, bits, handed, Evaluated}
 use Rattle.model.specs.View.{view, passes}
 use Rattle.evaluating.specs.Evaluate.{reply_of}
-use Rattle.steady.specs.declared.AfterList.{AfterList}
 use Rattle.steady.specs.Lists.{after, newest, Sparing}
 
 -- refused with 7, and the very record that came in
@@ -37,6 +37,6 @@ abbrev pub Promised : Option (List Edit) → Record → Tag → Vec3 → Record 
 Promised none m t p n r = Refused m n r
 Promised (some es) m t p n r = Steadied es m t p n r
 
--- and of the record that the function answers with; a number carries no tag and no index, by its type
-pub record After (o : Option (List Edit)) (m : Record) (t : Tag) (p : Vec3) (r : AfterList) : Type 0 where
-  pub promised : Promised o m t p r.model (reply_of r.reply)
+-- and of the function's answer r and the model n that it leaves; a number carries no tag and no index, by its type
+pub record After (o : Option (List Edit)) (m : Record) (t : Tag) (p : Vec3) (n : Record) (r : Result ℕ Refusal) : Type 0 where
+  pub promised : Promised o m t p n (reply_of r)

@@ -23,7 +23,7 @@ use Rattle.evaluating.specs.Evaluate.{reply_of}
 use Rattle.model_bytes.specs.ModelBytes.{model_in}
 use Rattle.model_bytes.specs.Calls.{Decodes}
 use Rattle.report.specs.Report.{reported, of_answer, of_reply}
-use Rattle.steady.specs.declared.AfterList.{AfterList}
+use Rattle.opened.specs.Said.{of_number, Says}
 use Rattle.steady.specs.Lists.{after, newest, Sparing}
 use Rattle.steady.specs.Steadied.{Steadied, Promised, After}
 use Rattle.model_bytes.specs.Calls.{Holds}
@@ -59,12 +59,17 @@ module _ {s : List ℕ} where
 
 -- ---- a list of edits
 
+-- what is said of an asking is its reply
+pub replied : {out written : List ℕ} {r : ℕ} (a : Result ℕ Refusal) → Says (of_number a) out written r → Replied (reply_of a) out written r
+replied (Ok b) q = record { code = q.answer; report = q.report }
+replied (Err e) q = record { code = q.answer; report = q.report }
+
 module _ (o : Option (List Edit)) (target : Tag) (p : Vec3) {s out written : List ℕ} where
-  pub asked_7 : {r : ℕ} → model_in s ≡ none → Told (refused 7 [] 0) out written r → AskedAfter o target p s s out written r
-  asked_7 h k = record {
+  pub asked_7 : {a : Answer} {r : ℕ} → model_in s ≡ none → a ≡ refused 7 [] 0 → Told a out written r → AskedAfter o target p s s out written r
+  asked_7 h e k = record {
     reply = handed 7 empty 0;
-    code = k.code;
-    report = k.report;
+    code = k.code ∙ ap (λ (b : Answer). (of_answer b).code) e;
+    report = k.report ∙ ap (λ (b : Answer). reported out (of_answer b)) e;
     unread = λ q. refl;
     unlisted = λ q. refl;
     answered = λ m es g q. absurd (none-ne-some m (sym h ∙ g));
@@ -72,17 +77,17 @@ module _ (o : Option (List Edit)) (target : Tag) (p : Vec3) {s out written : Lis
     kept = λ z. refl;
   }
 
-  module _ {t : List ℕ} {a : AfterList} {r : ℕ} (d : Record) (held : Decodes s (Some d)) (h : After o d target p a)
-      (k : Replied (reply_of a.reply) out written r) (w : Written a.model s t r) where
+  module _ {t : List ℕ} {n : Record} {a : Result ℕ Refusal} {r : ℕ} (d : Record) (held : Decodes s (Some d)) (h : After o d target p n a)
+      (k : Replied (reply_of a) out written r) (w : Written n s t r) where
     abbrev reply : Reply
-    reply = reply_of a.reply
+    reply = reply_of a
 
     unlisted : o ≡ none → reply ≡ handed 7 empty 0
-    unlisted q = (subst (λ (y : Option (List Edit)). Promised y d target p a.model reply) q h.promised).reply
+    unlisted q = (subst (λ (y : Option (List Edit)). Promised y d target p n reply) q h.promised).reply
 
     module _ (m : Model) (es : List Edit) (g : model_in s ≡ some m) (q : o ≡ some es) where
-      run : Steadied es d target p a.model reply
-      run = subst (λ (y : Option (List Edit)). Promised y d target p a.model reply) q h.promised
+      run : Steadied es d target p n reply
+      run = subst (λ (y : Option (List Edit)). Promised y d target p n reply) q h.promised
 
       seen : view d ≡ m
       seen = held_one s held.0 g
@@ -110,7 +115,7 @@ module _ (o : Option (List Edit)) (target : Tag) (p : Vec3) {s out written : Lis
       stored : r ≡ 0 → Holds (after es m) s t
       stored z =
           let v = passing ∙ valid_is (valid m) refl z in
-          holds_after (model-long s g) (run.passing v) (subst (λ (n : Model). Same (after es n) (view a.model)) seen (run.model v)) w z
+          holds_after (model-long s g) (run.passing v) (subst (λ (x : Model). Same (after es x) (view n)) seen (run.model v)) w z
 
     pub asked-after : AskedAfter o target p s t out written r
     asked-after = record {

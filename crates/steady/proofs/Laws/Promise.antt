@@ -25,5 +25,5 @@ promised m n t p r none h k = absurd (let z : ◌≡◌ {A = ℕ} 0 1 = cc in le
 promised m n t p r (some es) h k = k es refl
 
 pub after_list : (s : List ℕ) {m n : Record} {t u : Tag} {p : Vec3} {r : Result ℕ Refusal} → is_some (edits_of s) ≡ true → Listed s m t n u → EvaluatesAs n u p r
-    → After (edits_of s) m t p (record { reply = r; model = n })
+    → After (edits_of s) m t p n r
 after_list s {m} {n} {t} {u} {p} {r} h l e = record { promised = promised m n t p (reply_of r) (edits_of s) h (λ es g. at_end (l es g) e.unfit e.fitting) }
