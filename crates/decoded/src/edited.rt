@@ -5,16 +5,16 @@ ghost use Rattle.decoded.specs.Edits.{Edits};
 
 use edit::Edited;
 use model::implicit_model::Model;
-use model_bytes::decode::decode;
-use storing::store::{store, tell_7};
+use opened::read_model;
+use storing::store::{store, tell};
 
 // Edits the model in some bytes by value, and stores it there. Bytes that hold no model are 7.
 pub(crate) fn edit_in<F: FnOnce(Model) -> Edited>(model: &mut [u8], out: &mut [u8], edit: F) -> u32
     requires { F.IsAlwaysCallable edit }
     ensures { (e : Edit) → Edits e (F.post edit) → Called e model.old model.new out.old out.new result }
 {
-    let Some(m) = decode(model) else {
-        return tell_7(out);
-    };
-    store(edit(m), model, out)
+    match read_model(model) {
+        Ok(m) => store(edit(m), model, out),
+        Err(refusal) => tell(Err(refusal), out),
+    }
 }

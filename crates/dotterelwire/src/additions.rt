@@ -7,6 +7,7 @@ ghost use Rattle.word_edits.specs.Edits.{function_of, operation_of, component_ed
 ghost use Rattle.edit_rows.specs.EditRows.{given as inputsGiven};
 
 use component_layout::component_numbers::ComponentWords;
+use edit_rows::inputs_word::inputs_given;
 
 #[unsafe(no_mangle)]
 pub extern "C" fn dw_add_constant(model: &mut [u8], tag: &[u8], value: u64, out: &mut [u8]) -> u32
@@ -66,7 +67,8 @@ pub extern "C" fn dw_add_operation(
         d,
         e,
     };
-    adding_operation_calls::dw_add_operation(model, tag, words, given, first, second, third, out)
+    let inputs = inputs_given(given, first, second, third);
+    adding_operation_calls::dw_add_operation(model, tag, words, inputs, out)
 }
 
 #[unsafe(no_mangle)]

@@ -16,7 +16,7 @@ pub extern "C" fn dw_read_parameter(
     showing_parameters::dw_read_parameter(model, tag, name, words, out)
 }
 
-// The name of a kind, and its count of inputs and 1.
+// The name of a kind, and one more than its count of inputs; 0 where there is no such kind.
 #[unsafe(no_mangle)]
 pub extern "C" fn dw_type_name(kind: u64, out: &mut [u8]) -> u32
     ensures { Says (of_kind (kind_of kind)) out.old out.new result }

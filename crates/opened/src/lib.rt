@@ -1,15 +1,15 @@
-// What the calls that read a model share: the model that bytes hold, and the report.
+// What the calls on a model in bytes share: the model that bytes hold, and the report.
 #![tactic(auto)]
 
 ghost use Rattle.tag.specs.View.{bytes_of};
 ghost use Rattle.model.specs.Answer.{refusal_of};
 ghost use Rattle.report.specs.Report.{of_answer};
-ghost use Rattle.opened.specs.Said.{plain, of_number, Says, Opens, Reads};
+ghost use Rattle.opened.specs.Said.{plain, answered, of_number, Says, Opens, Reads};
 
 use model::implicit_model::Model;
 use model::model_error::{ModelError, Refusal};
 use model_bytes::decode::decode;
-use report::write_report;
+use report::{Report, write_report};
 use tag::Tag;
 use validity::is_valid;
 
@@ -29,26 +29,40 @@ pub fn read_model(bytes: &[u8]) -> Result<Model, Refusal>
     decode(bytes).ok_or(Refusal::plain(ModelError::InvalidModel))
 }
 
-// Writes the report, and answers its code.
-pub fn say(out: &mut [u8], code: u32, index: u64, t: Tag, number: u64) -> u32
-    ensures { Says (record { code = code; index = index; tag = bytes_of t; number = number }) out.old out.new result }
+// Says no refusal, no tag and no number.
+pub fn say_nothing(out: &mut [u8]) -> u32
+    ensures { Says (plain 0) out.old out.new result }
 {
-    write_report(out, code as u64, index, t, number);
-    code
+    write_report(out, Report::default());
+    0
 }
 
-// Says a code alone.
-pub fn say_code(out: &mut [u8], code: u32) -> u32
-    ensures { Says (plain code) out.old out.new result }
+// Says a tag and a number.
+pub fn say_tagged(out: &mut [u8], tag: Tag, number: u64) -> u32
+    ensures { Says (answered (bytes_of tag) number) out.old out.new result }
 {
-    say(out, code, 0, Tag::default(), 0)
+    let tagged = Report {
+        tag,
+        number,
+        ..Report::default()
+    };
+    write_report(out, tagged);
+    0
 }
 
 // Says a refusal, with the tag and the index that it carries.
 pub fn say_refusal(out: &mut [u8], r: Refusal) -> u32
     ensures { Says (of_answer (refusal_of r)) out.old out.new result }
 {
-    say(out, u32::from(r.error), r.index as u64, r.tag, 0)
+    let code = u32::from(r.error);
+    let refused = Report {
+        code: u64::from(code),
+        index: r.index as u64,
+        tag: r.tag,
+        number: 0,
+    };
+    write_report(out, refused);
+    code
 }
 
 // Says the number answered, or the refusal.
@@ -56,7 +70,7 @@ pub fn say_number(out: &mut [u8], answer: Result<u64, Refusal>) -> u32
     ensures { Says (of_number answer) out.old out.new result }
 {
     match answer {
-        Ok(number) => say(out, 0, 0, Tag::default(), number),
+        Ok(number) => say_tagged(out, Tag::default(), number),
         Err(refusal) => say_refusal(out, refusal),
     }
 }

@@ -42,22 +42,24 @@ handed_on : {R : Type 0} {n : ℕ} (e : Refusal) (r : Result R Refusal) → refu
 handed_on e (Ok x) q p = absurd p
 handed_on e (Err x) q p = ap refusal_of p ∙ q
 
+module _ {A R : Type 0} (read : R → Option (Tag × A)) where
+  turned_away : (n : ℕ) (f : Finding A) (r : Result R Refusal) → f ≡ refused n → IsErrAnd r (λ e. refusal_of e ≡ edit_refused n empty 0) → Finds read f r
+  turned_away n f (Ok x) q p = absurd p
+  turned_away n f (Err e) q p = (n, q, p)
+
+  -- no model is held, whatever is sought in it
+  pub finds_7 : (f : Model → Finding A) (o : Option Model) (r : Result R Refusal) (e : Refusal) → (o ≡ none) × (refusal_of e ≡ edit_refused 7 empty 0) → IsErrAnd r (λ x. x ≡ e) → Finds read (in_model f o) r
+  finds_7 f o r e q p = turned_away 7 (in_model f o) r (ap (in_model f) q.0) (handed_on e r q.1 p)
+
 module _ {A R : Type 0} (read : R → Option (Tag × A)) (t : Tag) (sought : Model → Option A) where
   abbrev under : Option Model → Finding A
   under x = in_model (λ m. short t (under_tag t (sought m))) x
 
   module _ (o : Option Model) where
-    turned_away : (n : ℕ) (r : Result R Refusal) → under o ≡ refused n → IsErrAnd r (λ e. refusal_of e ≡ edit_refused n empty 0) → Finds read (under o) r
-    turned_away n (Ok x) f p = absurd p
-    turned_away n (Err e) f p = (n, f, p)
-
-    pub finds_7 : (r : Result R Refusal) (e : Refusal) → (o ≡ none) × (refusal_of e ≡ edit_refused 7 empty 0) → IsErrAnd r (λ x. x ≡ e) → Finds read (under o) r
-    finds_7 r e f p = turned_away 7 r (ap under f.0) (handed_on e r f.1 p)
-
     module _ {m : Model} (e : o ≡ some m) where
       pub finds_1 : (r : Result R Refusal) → overlong t ≡ true → IsErrAnd r (λ x. refusal_of x ≡ edit_refused 1 empty 0) → Finds read (under o) r
       unfolding short
-      finds_1 r f p = turned_away 1 r (ap under e ∙ ap (λ (b : Bool). cond b (refused 1) (under_tag t (sought m))) f) p
+      finds_1 r f p = turned_away read 1 (under o) r (ap under e ∙ ap (λ (b : Bool). cond b (refused 1) (under_tag t (sought m))) f) p
 
       pub finds : {x : Option A} (r : R) → overlong t ≡ false → x ≡ sought m → under_tag t x ≡ at_position (read r) → Finds read (under o) (Ok r)
       unfolding short

@@ -14,7 +14,7 @@ use float::bits::bits_of;
 use held::reading::get_component;
 use model::model_error::{ModelError, Refusal};
 use naming::{parameter, type_name};
-use opened::{opened, say, say_code, say_refusal};
+use opened::{opened, say_nothing, say_number, say_refusal, say_tagged};
 use parameter_reading::read_parameter;
 use rows::writing::write_three;
 use tag::Tag;
@@ -27,13 +27,13 @@ fn say_data(r: Option<Data>, words: &mut [u8], out: &mut [u8]) -> u32
     match r {
         Some(Data::Value(x)) => {
             write_three(words, 0, bits_of(x), 0, 0);
-            say(out, 0, 0, Tag::default(), 1)
+            say_number(out, Ok(1))
         }
         Some(Data::Vec3(v)) => {
             write_three(words, 0, bits_of(v.x), bits_of(v.y), bits_of(v.z));
-            say(out, 0, 0, Tag::default(), 2)
+            say_number(out, Ok(2))
         }
-        Some(Data::Boolean(_)) | None => say_code(out, 0),
+        Some(Data::Boolean(_)) | None => say_nothing(out),
     }
 }
 
@@ -69,25 +69,23 @@ fn component_of_kind(kind: u64) -> Option<Component>
 {
     component_from(ComponentWords {
         kind,
-        a: 0,
-        b: 0,
-        c: 0,
-        d: 0,
-        e: 0,
+        ..ComponentWords::default()
     })
 }
 
-// The name of a kind, and its count of inputs and 1.
+// The name of a kind, and one more than its count of inputs; 0 where there is no such kind.
+// Kept: here and in `dw_parameter` the kind is a number, as the C interface hands it over.
 pub fn dw_type_name(kind: u64, out: &mut [u8]) -> u32
     ensures { Says (of_kind (kind_of kind)) out.old out.new result }
 {
     let Some(c) = component_of_kind(kind) else {
-        return say_code(out, 0);
+        return say_nothing(out);
     };
-    say(out, 0, 0, type_name(c), c.input_count() as u64 + 1)
+    say_tagged(out, type_name(c), c.input_count() as u64 + 1)
 }
 
-// What a parameter takes, by number. Kept: the C interface fixes these two numbers.
+// What a parameter takes, by number.
+// Kept: these two numbers, which the C interface fixes.
 fn type_number(d: DataType) -> u64
     ensures { result ≡ takes d }
 {
@@ -102,10 +100,10 @@ pub fn dw_parameter(kind: u64, index: u64, out: &mut [u8]) -> u32
     ensures { Says (of_parameter (kind_of kind) index) out.old out.new result }
 {
     let Some(c) = component_of_kind(kind) else {
-        return say_code(out, 0);
+        return say_nothing(out);
     };
     let Some(p) = parameter(c, index as usize) else {
-        return say_code(out, 0);
+        return say_nothing(out);
     };
-    say(out, 0, 0, p.name, type_number(p.data_type))
+    say_tagged(out, p.name, type_number(p.data_type))
 }

@@ -1,6 +1,5 @@
 -- `write_report` meets its contract. Assumes nothing.
-use Rattle.std.proofs.Common.{arith, rules, ap, ◌∙◌, ◌≡◌, length, List, ℕ}
-use Rattle.tag.proofs.Laws.View.{bytes_of-length}
+use Rattle.std.proofs.Common.{arith, ap, ◌∙◌, length, List, ℕ}
 use Rattle.layout.specs.Writing.{put}
 use Rattle.report.specs.Report.{padded}
 use Rattle.report.proofs.Laws.{no_room, written}

@@ -136,11 +136,11 @@ module _ (e : Edit) (s : List ℕ) (n : model_in s ≡ none) where
   answer_7 : refused 7 empty 0 ≡ answer_in e (model_in s)
   answer_7 = sym (ap (answer_in e) n)
 
-  pub called_7 : {out after : List ℕ} {r : ℕ} → Told (refused 7 empty 0) out after r → Called e s s out after r
-  called_7 {out} w = record {
-    code = w.code ∙ ap (λ (a : Answer). (of_answer a).code) answer_7;
-    report = w.report ∙ ap (λ (a : Answer). reported out (of_answer a)) answer_7;
-    apart = λ q z. absurd (let k : 0 ≡ 7 = sym z ∙ w.code in let y : ⊥ = omega arith in y);
+  pub called_7 : {a : Answer} {out after : List ℕ} {r : ℕ} → a ≡ refused 7 empty 0 → Told a out after r → Called e s s out after r
+  called_7 {out = out} q w = record {
+    code = w.code ∙ ap (λ (b : Answer). (of_answer b).code) (q ∙ answer_7);
+    report = w.report ∙ ap (λ (b : Answer). reported out (of_answer b)) (q ∙ answer_7);
+    apart = λ p z. absurd (let k : 0 ≡ 7 = sym z ∙ w.code ∙ ap (λ (b : Answer). (of_answer b).code) q in let y : ⊥ = omega arith in y);
     model = λ m g z. absurd (none-ne-some m (sym n ∙ g));
     kept = λ k. refl;
   }

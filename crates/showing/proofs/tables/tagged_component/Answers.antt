@@ -4,11 +4,12 @@ use mathlib.Core.Path.{ap, ◌∙◌}
 use Rattle.model.specs.Model.{component}
 use Rattle.model.specs.View.{view}
 use Rattle.held.specs.Reading.{entry_read}
+use Rattle.showing.specs.Tables.{short, under_tag}
 use Rattle.showing.proofs.Laws.{finds_7, finds_1, finds, entry_found}
 use Rattle.showing.proofs.tables.tagged_component.Goals as goal
 
 pub returns-in_err-m : goal.returns-in_err-m
-returns-in_err-m c = finds_7 entry_read c.args.tag.now (λ m. component m c.args.tag.now) _ _ _ c.in_err-m.ensures c.from_residual.ensures.1
+returns-in_err-m c = finds_7 entry_read (λ m. short c.args.tag.now (under_tag c.args.tag.now (component m c.args.tag.now))) _ _ _ c.in_err-m.ensures c.from_residual.ensures.1
 
 pub returns-in_err-tag : goal.returns-in_err-tag
 returns-in_err-tag c = finds_1 entry_read c.args.tag.now (λ m. component m c.args.tag.now) _ c.in_ok-m.ensures _ c.in_err-tag.ensures c.from_residual-in_err-tag.ensures.1
