@@ -34,7 +34,7 @@ next_tag m i = codes " " ++ tag_word (tag_of_row (get_elem? (view m).components 
 
 -- COUNT TAG...: an order has 64 positions at most; of a larger count only 64 are written
 abbrev pub order_words : Order → List ℕ
-order_words o = decimal o.count ++ flat_map (next_tag o.model.now) (take (min o.count 64) o.positions)
+order_words o = decimal o.graph.count ++ flat_map (next_tag o.model.now) (take (min o.graph.count 64) o.graph.order)
 
 -- NUMBER TAG INDEX
 abbrev pub refusal_words : Refusal → List ℕ

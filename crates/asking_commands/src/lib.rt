@@ -14,12 +14,7 @@ use record::writing::Record;
 
 fn compile<'a>(model: &'a Model, target: &[u8]) -> Result<Reply<'a>, Refusal> {
     let graph = graph::computation_graph::compile(model, target)?;
-    let positions = graph.order;
-    Ok(Reply::Order(Order {
-        model,
-        positions,
-        count: graph.count,
-    }))
+    Ok(Reply::Order(Order { model, graph }))
 }
 
 fn evaluate_at<'a>(model: &Model, target: &[u8], at: Vec3) -> Result<Reply<'a>, Refusal> {
@@ -53,8 +48,7 @@ fn answered<'a>(model: &'a Model, question: &Question) -> Result<Reply<'a>, Refu
 
 // What a model answers.
 pub fn asked<'a>(model: &'a Model, question: &Question) -> Reply<'a> {
-    // Kept: tried, `unwrap_or_else(Reply::Refused)` is refused, since the result of the function handed on names a lifetime that its
-    // argument does not.
+    // Kept: tried, `unwrap_or_else` is refused, with `Reply::Refused` and with a closure, since the result of the function handed on names a lifetime that neither its argument nor what it captures does.
     match answered(model, question) {
         Ok(reply) => reply,
         Err(refusal) => Reply::Refused(refusal),

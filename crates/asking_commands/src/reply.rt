@@ -6,6 +6,7 @@ ghost use Rattle.model.specs.View.{view};
 ghost use Rattle.asking_commands.specs.Answers.{ended, tag_of_row, order_words, reply_text};
 
 use geometry::vec3f::Vec3;
+use graph::computation_graph::Graph;
 use model::implicit_model::Model;
 use model::model_error::{Answer, Refusal};
 use record::writing::Record;
@@ -40,23 +41,18 @@ impl From<Answer> for Reply<'_> {
     }
 }
 
-// A model, and the first `count` of these positions in its component table.
-// Kept: memory is fixed, so the positions stand in an array with their count beside it, as compile answers them.
+// A model, and the graph of one of its tags.
 #[derive(Clone, Copy)]
 pub struct Order<'a> {
     pub model: &'a Model,
-    pub positions: [usize; 64],
-    pub count: usize,
+    pub graph: Graph,
 }
 
 // The tag at a position of the component table, the empty one where there is no row.
 fn tag_at(model: &Model, position: usize) -> Tag
     ensures { bytes_of result ≡ tag_of_row (get_elem? (view model.now).components position) }
 {
-    match held::reading::component_at(model, position) {
-        Some(row) => row.tag,
-        None => Tag::default(),
-    }
+    held::reading::component_at(model, position).map_or(Tag::default(), |row| row.tag)
 }
 
 // How many there are, and their tags.
@@ -64,8 +60,10 @@ impl fmt::Display for Order<'_> {
     ghost output = { λ o. Some (order_words o) };
 
     fn fmt<W: fmt::Write>(&self, f: &mut fmt::Formatter<W>) -> fmt::Result {
-        write!(f, "{}", self.count)?;
-        for position in &self.positions[..self.count.min(64)] {
+        let graph = &self.graph;
+        write!(f, "{}", graph.count)?;
+        // Kept: tried, with `graph.positions()` the goal `returns-clause-writes` stays open: it needs `length order ≡ 64`, which neither the clause of `positions` nor a field of the `&` argument says.
+        for position in &graph.order[..graph.count.min(64)] {
             write!(f, " {}", TagWord(tag_at(self.model, *position)))?;
         }
         Ok(())

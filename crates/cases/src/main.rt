@@ -3,11 +3,9 @@
 #![tactic(auto)]
 
 use model::implicit_model::Model;
+use recorded::lines::next_line;
 use script::answers::answer;
-use std::io::{self, BufRead, BufReader};
-
-// The bytes of a line past these are left out.
-const LONGEST_LINE: usize = 65536;
+use std::io::{self, BufReader};
 
 // A line run on the model, or printed.
 fn run(rt: &(impl Print + Alloc), model: &mut Model, line: &[u8]) -> io::Result<()> {
@@ -28,15 +26,12 @@ fn main(rt: HostRuntime) -> io::Result<()> {
     let mut input = BufReader::new(rt.alloc(), rt.reader())?;
     let mut line = Vec::new(rt.alloc());
     let mut model = held::reading::new();
-    // Kept: split would give a last line that has no line feed too, which this program leaves out. Nothing says that the input ends, so
-    // the turns are counted.
+    // Kept: what `next_line` lends lets no iterator drive the loop, and nothing says that the input ends, so the turns are counted. It stands in cases and in replay, since a function over both would take what is done with a line as a closure.
     for _ in 0..u64::MAX {
-        line.clear();
-        input.read_until(b'\n', &mut line)?;
-        let Some(command) = line.strip_suffix(b"\n") else {
+        let Some(command) = next_line(&mut input, &mut line)? else {
             break;
         };
-        run(&rt, &mut model, &command[..command.len().min(LONGEST_LINE)])?;
+        run(&rt, &mut model, command)?;
     }
     Ok(())
 }

@@ -7,6 +7,7 @@ fn number(line: &[u8]) -> Option<u64> {
 }
 
 // The answer of the next line, where it spells one.
+// Kept: 17 bytes, and neither std's lines, which would take a last line with no line feed for an answer, nor recorded's `next_line`, which needs a buffer and its memory for a line whose length is known.
 pub fn next(input: &mut impl Read) -> io::Result<Option<u64>> {
     let mut line = [0; 17];
     match input.read_exact(&mut line) {

@@ -22,6 +22,7 @@ pub enum Kind {
 }
 
 // A kind by its name; `case` is document 01's, and no kind of component.
+// Kept: it states no output, for `{:?}` of an enum states none, and a match would write each name again.
 impl fmt::Display for Kind {
     fn fmt<W: fmt::Write>(&self, f: &mut fmt::Formatter<W>) -> fmt::Result {
         match self {

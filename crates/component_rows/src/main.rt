@@ -8,12 +8,13 @@ mod numbers;
 mod question;
 
 use kind::Kind;
+use question::Question;
 use recorded::{Outcome, Tally};
 use std::io;
 
-const PAIRS: usize = 289;
+const PAIRS: usize = 17 * 17;
 
-const TRIPLES: usize = 4913;
+const TRIPLES: usize = 17 * 17 * 17;
 
 // How many questions of each kind.
 const COUNTS: [(Kind, usize); 16] = [
@@ -35,7 +36,7 @@ const COUNTS: [(Kind, usize); 16] = [
     (Kind::Thickness, PAIRS),
 ];
 
-// The nth question of a kind, beside its recorded answer.
+// Asks the nth question of a kind, counts the outcome, and prints it where the recorded answer is another or not read.
 fn judge(
     rt: &impl Print,
     tally: &mut Tally,
@@ -43,7 +44,7 @@ fn judge(
     n: usize,
     answer: Option<u64>,
 ) -> io::Result<()> {
-    let question = question::nth(kind, n);
+    let question = Question::nth(kind, n);
     let got = question.answered();
     match answer {
         Some(bits) if bits == got => {

@@ -1,4 +1,6 @@
 // The numbers that are asked, and the ranges of Remap over them.
+use component::range::Range;
+
 const NUMBERS: [u64; 17] = [
     0x0000_0000_0000_0000, // 0
     0x8000_0000_0000_0000, // -0
@@ -41,7 +43,7 @@ pub fn number(i: usize) -> f64 {
 }
 
 // The range at a position, counted round the table.
-pub fn range(i: usize) -> (f64, f64) {
-    let (low, high) = RANGES[i % 12];
-    (number(low), number(high))
+pub fn range(i: usize) -> Range {
+    let (min, max) = RANGES[i % 12];
+    Range::new(number(min), number(max))
 }

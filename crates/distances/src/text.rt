@@ -9,6 +9,7 @@ fn millionths(x: f64) -> u64 {
     saturating_f64_to_u64(x * 1_000_000.0 + 0.5)
 }
 
+// Kept: a text and no `Display`, since `{:>14}` pads a text, so that a number is made a text first.
 pub fn readable(alloc: Global, x: f64) -> Result<String, AllocError> {
     if x.is_nan() {
         return String::from_str(alloc, "nan");

@@ -12,6 +12,7 @@ fn print_line(rt: &impl Print, line: &[u8]) -> io::Result<()> {
     rt.write_all(line.get(..64).unwrap_or(line))
 }
 
+// Counts what became of a row, and prints the line where it could not be read or its recorded answer is another.
 fn judge(rt: &impl Print, tally: &mut Tally, line: &[u8]) -> io::Result<()> {
     let Some(row) = Row::parse(line) else {
         tally.count(Outcome::Unread);

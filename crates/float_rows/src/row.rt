@@ -22,6 +22,7 @@ fn float(word: &str) -> Option<f64> {
     recorded::number(word).map(bits::float_of)
 }
 
+// Kept: an Option here and below, and no FromStr, whose error would say no more than None, and be made by hand at each `?`; and a match on the names, since no other place reads or writes one.
 impl Question {
     fn parse(name: &str, numbers: &str) -> Option<Question> {
         if name == "root" {

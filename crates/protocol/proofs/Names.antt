@@ -1,4 +1,4 @@
--- A name whose every byte was read.
+-- A name whose every byte was read. Assumes nothing.
 use Rattle.std.proofs.Common.{◌≡◌, ℕ, List, length}
 use Rattle.std.proofs.lemmas.Slice.Eq.{HasBytesAt, text_from_reads}
 

@@ -23,8 +23,7 @@ pub enum Operator {
 
 impl Inputs {
     // A count and so many tags. Tags that there is no room for are counted and not kept.
-    // Kept: one reading for these and for the rows of a record would need a public trait in spelling, and an impl of it for each kind of
-    // row, which is longer than this loop twice.
+    // Kept: record's `read_rows` reads a count and so many rows too, but asks for `Copy`, which a `Text` is not; shared, it and its trait would be public in spelling, for this one loop.
     fn read(words: &mut Words) -> Option<Inputs> {
         let count = words.decimal()?;
         let mut tags = [Text::new(), Text::new(), Text::new()];
@@ -62,6 +61,7 @@ pub(crate) fn data(words: &mut Words) -> Option<Data> {
 }
 
 impl Operator {
+    // An operator by its name, and what it is asked of.
     pub(crate) fn read(words: &mut Words) -> Option<Operator> {
         match words.next()? {
             b"add" => Some(Operator::Add(words.vec3()?, words.vec3()?)),

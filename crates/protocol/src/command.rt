@@ -11,6 +11,7 @@ use spelling::line_words::Words;
 use spelling::text::Text;
 
 // The edits of a model.
+// Kept: edit_rows' `Change` has the same nine cases over lent bytes. One generic enum would take the type of a text and that of the inputs, and protocol would rest on edit_rows for it.
 #[derive(Drop)]
 pub enum Change {
     AddConstant {

@@ -10,6 +10,7 @@ use word_writing::kind::ComponentWords;
 use word_writing::{PlaceWord, TagWord};
 
 // The rows of a table in ascending order of their tags.
+// Kept: no copy of each table and `sort_unstable_by_key`. Any model may be in a `Record`, and of rows with one tag this writes the first alone; a sort would write them all, in an order that its clauses leave open. What is printed stays as it is.
 #[derive(Drop)]
 struct Ascending<'a, R> {
     rows: &'a [R],

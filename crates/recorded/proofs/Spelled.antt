@@ -1,4 +1,4 @@
--- 16 hexadecimal digits are read as a number: they fit 64 bits.
+-- 16 hexadecimal digits are read as a number: they fit 64 bits. Assumes nothing.
 use Rattle.std.proofs.Common.{rules, arith, ◌≡◌, ℕ, ◌<◌, ◌^◌, List, [], ◌∷◌, length, true, Result, Ok, refl, sym, ap, subst}
 use Rattle.std.specs.List.{list_all}
 use Rattle.std.specs.Char.{digit_value}

@@ -5,14 +5,13 @@
 ghost use Rattle.std.specs.Prelude.{◌++◌, Some, codes, decimal};
 
 use model::implicit_model::Model;
+use recorded::lines::next_line;
 use script::answers::answer;
 use std::fmt;
-use std::io::{self, BufRead, BufReader};
-
-// The bytes of a line past these are left out.
-const LONGEST_LINE: usize = 65536;
+use std::io::{self, BufReader};
 
 // How many answers were held to the Rust's, and how many of them are the same, differ as told, or are not explained.
+// Kept: not recorded's, since what is told or not explained is neither another answer nor one that could not be read.
 #[derive(Clone, Copy, Default)]
 struct Tally {
     answers: u64,
@@ -117,15 +116,12 @@ fn main(rt: HostRuntime) -> io::Result<()> {
         open: false,
         tally: Tally::default(),
     };
-    // Kept: split would give a last line that has no line feed too, which this program leaves out. Nothing says that the input ends, so
-    // the turns are counted.
+    // Kept: what `next_line` lends lets no iterator drive the loop, and nothing says that the input ends, so the turns are counted. It stands in cases and in replay, since a function over both would take what is done with a line as a closure.
     for _ in 0..u64::MAX {
-        line.clear();
-        input.read_until(b'\n', &mut line)?;
-        let Some(taken) = line.strip_suffix(b"\n") else {
+        let Some(taken) = next_line(&mut input, &mut line)? else {
             break;
         };
-        replay.take(&rt, &taken[..taken.len().min(LONGEST_LINE)])?;
+        replay.take(&rt, taken)?;
     }
     replay.settle(&rt)?;
     println!(rt; "{}", replay.tally)

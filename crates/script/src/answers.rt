@@ -20,11 +20,7 @@ pub fn answer<'a>(model: &'a mut Model, line: &[u8]) -> Reply<'a> {
             }
             None => Reply::NoCommand,
         },
-        Some(Command::Change(change)) => {
-            let edited = edited(model, &change);
-            *model = edited.model;
-            Reply::from(edited.answer)
-        }
+        Some(Command::Change(change)) => Reply::from(edited(model, &change)),
         Some(Command::Ask(question)) => asked(model, &question),
         None => Reply::NoCommand,
     }

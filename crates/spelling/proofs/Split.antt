@@ -1,4 +1,4 @@
--- The words of a line by the position of its first space.
+-- The words of a line by the position of its first space. Assumes nothing.
 use Rattle.std.proofs.Common.{rules, ◌≡◌, ℕ, ◌+◌, ◌-◌, length, Bool, List, [], ◌∷◌, Some, None, refl}
 use Rattle.std.specs.Prelude.{take, drop}
 use Rattle.std.specs.List.{slice_split, position}

@@ -12,6 +12,7 @@ fn first_space(line: &[u8]) -> Option<usize>
 }
 
 // What is left of the line; nothing behind its last word.
+// Kept: std's `split` gives the same words, but its type names the type of its closure, and a `Command` holds the words of `load` by a type with a name.
 #[derive(Clone, Copy)]
 pub struct Words<'a>(Option<&'a [u8]>);
 

@@ -2,6 +2,7 @@
 ghost use Rattle.std.specs.Prelude.{◌<◌, IfSome};
 
 // The value of a hexadecimal digit.
+// Kept: `char::from(byte).to_digit(16)` gives a u32, which would have to be narrowed to the byte that it is, and is no plainer than these ranges.
 pub fn digit(byte: u8) -> Option<u8>
     ensures { IfSome result (λ d. d < 16) }
 {
@@ -14,6 +15,7 @@ pub fn digit(byte: u8) -> Option<u8>
 }
 
 // The bits of a float: 16 hexadecimal digits.
+// Kept: not recorded's `number`, which takes no digit in upper case, as a recorded answer has none.
 pub fn bits(word: &[u8]) -> Option<u64> {
     if word.len() != 16 {
         return None;
@@ -31,6 +33,7 @@ fn appended(number: u64, byte: u8) -> Option<u64> {
 }
 
 // An index or a count: decimal digits.
+// Kept: not `parse`, which takes a `+` ahead of the digits, and numbers of 20 digits that this refuses.
 pub fn decimal(word: &[u8]) -> Option<u64> {
     let (first, others) = word.split_first()?;
     others.iter().try_fold(appended(0, *first)?, |number, byte| appended(number, *byte))

@@ -45,6 +45,7 @@ impl Words<'_> {
     }
 
     // A component: the word of its kind, and its numbers.
+    // Kept: the words stand here and in word_writing, since each is a pattern here, whose arm reads the numbers of its kind.
     pub fn component(&mut self) -> Option<Component>
         ensures { IfSome result (λ c. words_left self.new ≡ drop (1 + numbers_of c) (words_left self.old)) }
     {

@@ -1,4 +1,4 @@
--- What `{:02x}` and `{:016x}` write: the last digits of the number, with zeros ahead of it.
+-- What `{:02x}` and `{:016x}` write: the last digits of the number, with zeros ahead of it. Assumes nothing.
 use Rattle.std.proofs.Common.{arith, ◌≡◌, ℕ, zero, suc, ◌+◌, ◌-◌, ◌/◌, ◌%◌, ◌^◌, ◌<◌, ◌≤◌, length, List, [], ◌∷◌, ◌++◌, replicate, false, refl, Some, Result}
 use mathlib.Core.Path.{sym, ap, subst, ◌∙◌}
 use mathlib.Core.List.{append_assoc, append-nil}

@@ -36,6 +36,7 @@ impl fmt::Display for Vec3Words {
 }
 
 // The word of a component's kind.
+// Kept: not naming's `type_name`, whose names are a screen's, as tags: three of the words differ, and would be a `match` again.
 fn kind_word(component: Component) -> &'static str
     ensures { result.now ≡ kind_word component }
 {

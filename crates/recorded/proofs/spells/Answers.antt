@@ -1,4 +1,4 @@
--- Each byte is looked at.
+-- Each byte is looked at. Assumes nothing.
 use Rattle.std.proofs.Common.{rules, ◌≡◌}
 use Rattle.std.specs.List.{list_all}
 use Rattle.std.proofs.lemmas.Iterator.Search.{all_from_yields_List}

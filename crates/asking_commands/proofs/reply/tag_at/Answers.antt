@@ -1,14 +1,18 @@
--- The row that is read, or none.
-use Rattle.std.proofs.Common.{rules, ◌≡◌, [], sym, ap, ◌∙◌}
+-- The row that is read, or none. Assumes nothing.
+use Rattle.std.proofs.Common.{rules, ◌≡◌, [], ap, ◌∙◌, None, Some}
+use Rattle.std.specs.Prelude.{MatchOption, Option}
+use Rattle.tag.specs.declared.Tag.{Tag as Label}
 use Rattle.tag.specs.View.{bytes_of}
+use Rattle.model.specs.declared.implicit_model.ComponentEntry.{ComponentEntry}
 use Rattle.held.specs.Reading.{entry_read}
 use Rattle.asking_commands.specs.Answers.{tag_of_row}
 use Rattle.asking_commands.proofs.reply.tag_at.Goals as goal
 
-pub returns-in-Some : goal.returns-in-Some
+-- the tag that stands for either
+row_or : (o : Option ComponentEntry) (r d : Label) (Q : ComponentEntry → Type 0) → bytes_of d ≡ [] → ((e : ComponentEntry) → Q e → r ≡ e.tag) → MatchOption o (r ≡ d) Q → bytes_of r ≡ tag_of_row (entry_read o)
 unfolding entry_read
-returns-in-Some c = ap (λ o. tag_of_row (entry_read o)) (sym c.in-Some.is) ∙ ap tag_of_row c.component_at.ensures
+row_or None r d Q none row m = ap bytes_of m ∙ none
+row_or (Some e) r d Q none row m = ap bytes_of (row e m)
 
-pub returns-in-None : goal.returns-in-None
-unfolding entry_read
-returns-in-None c = let none : bytes_of c.default.result ≡ [] = search rules in none ∙ ap (λ o. tag_of_row (entry_read o)) (sym c.in-None.is) ∙ ap tag_of_row c.component_at.ensures
+pub returns : goal.returns
+returns c = row_or _ _ _ _ (search rules) (λ e q. search rules) c.map_or.ensures ∙ ap tag_of_row c.component_at.ensures

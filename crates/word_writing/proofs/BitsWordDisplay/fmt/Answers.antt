@@ -1,4 +1,4 @@
--- Of the placeholder.
+-- Of the placeholder. Assumes nothing.
 use Rattle.std.proofs.Common.{rules}
 use Rattle.word_writing.proofs.Hex.{shown}
 use Rattle.word_writing.proofs.BitsWordDisplay.fmt.Goals as goal

@@ -1,4 +1,4 @@
--- One byte more.
+-- One byte more. Assumes nothing.
 use Rattle.std.proofs.Common.{rules, sym, ap, ◌∙◌, get_or, []}
 use Rattle.std.specs.List.{flat_map}
 use Rattle.std.proofs.lemmas.List.{take_more, flat_map_more}

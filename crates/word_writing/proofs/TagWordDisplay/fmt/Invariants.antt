@@ -1,4 +1,4 @@
--- What is written so far: the bytes that were gone over.
+-- What is written so far: the bytes that were gone over. Assumes nothing.
 use Rattle.std.proofs.Common.{take}
 use Rattle.std.specs.Fmt.{HasWritten, IsPlainFormatter}
 use Rattle.std.specs.List.{flat_map}

@@ -1,4 +1,4 @@
--- The longer names, from their lengths and bytes.
+-- The longer names, from their lengths and bytes. Assumes nothing.
 use Rattle.std.proofs.Common.{rules}
 use Rattle.std.proofs.lemmas.Slice.Eq.{text_from_reads}
 use Rattle.protocol.proofs.command.Change.read.Goals as goal

@@ -1,4 +1,4 @@
--- What is written so far: the tag, the count and the places that were gone over.
+-- What is written so far: the tag, the count and the places that were gone over. Assumes nothing.
 use Rattle.std.proofs.Common.{◌++◌, take, length, codes, decimal}
 use Rattle.std.specs.Fmt.{HasWritten, IsPlainFormatter}
 use Rattle.std.specs.List.{flat_map}
