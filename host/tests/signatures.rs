@@ -110,7 +110,7 @@ fn promises(text: &str, behind: &str) -> BTreeMap<String, String> {
 }
 
 /// What a function takes as one value, in the words and numbers of its export.
-const VALUES: [(&str, &str, &str, &str); 3] = [
+const VALUES: [(&str, &str, &str, &str); 4] = [
     (
         "words: ComponentWords",
         "kind: u64, a: u64, b: u64, c: u64, d: u64, e: u64",
@@ -122,6 +122,12 @@ const VALUES: [(&str, &str, &str, &str); 3] = [
         "kind: u64, a: u64, b: u64, c: u64",
         "words",
         "(record { kind = kind; a = a; b = b; c = c })",
+    ),
+    (
+        "inputs: Option<Inputs>",
+        "given: u64, first: &[u8], second: &[u8], third: &[u8]",
+        "(inputs_of inputs.entry)",
+        "(inputsGiven given first.now second.now third.now)",
     ),
     ("p: Vec3", "x: u64, y: u64, z: u64", "p", "(point_of (number x) (number y) (number z))"),
 ];
