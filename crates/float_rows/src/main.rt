@@ -3,21 +3,20 @@
 
 mod row;
 
+use recorded::lines::read_start;
 use recorded::{Outcome, Tally};
 use row::Row;
-use std::io::{self, BufRead, BufReader};
+use std::io::{self, BufReader};
 
-// A line as it is printed: a row is shorter than 64 bytes, so the start of a longer line will do.
-fn print_line(rt: &impl Print, line: &[u8]) -> io::Result<()> {
-    rt.write_all(line.get(..64).unwrap_or(line))
-}
+// The bytes of a line past these are left out: a row is shorter, so a line that fills them is none, whatever follows.
+const LONGEST: usize = 64;
 
 // Counts what became of a row, and prints the line where it could not be read or its recorded answer is another.
 fn judge(rt: &impl Print, tally: &mut Tally, line: &[u8]) -> io::Result<()> {
     let Some(row) = Row::parse(line) else {
         tally.count(Outcome::Unread);
         print!(rt; "row {} unread: ", tally.rows)?;
-        print_line(rt, line)?;
+        rt.write_all(line)?;
         return println!(rt);
     };
     let got = row.answered();
@@ -27,14 +26,23 @@ fn judge(rt: &impl Print, tally: &mut Tally, line: &[u8]) -> io::Result<()> {
     }
     tally.count(Outcome::Differed);
     print!(rt; "row {} differs: ", tally.rows)?;
-    print_line(rt, line)?;
+    rt.write_all(line)?;
     println!(rt; " recorded, got {got:016x}")
 }
 
 fn main(rt: HostRuntime) -> io::Result<()> {
+    let mut input = BufReader::new(rt.alloc(), rt.reader())?;
+    let mut line = Vec::new(rt.alloc());
     let mut tally = Tally::default();
-    for line in BufReader::new(rt.alloc(), rt.reader())?.split(rt.alloc(), b'\n') {
-        judge(&rt, &mut tally, line?.as_slice())?;
+    // Kept: the lines are read into one Vec, which no iterator lends, and nothing says that the input ends, so the turns are counted.
+    for _ in 0..u64::MAX {
+        let fed = read_start(&mut input, &mut line, LONGEST)?;
+        if fed || !line.is_empty() {
+            judge(&rt, &mut tally, line.as_slice())?;
+        }
+        if !fed {
+            break;
+        }
     }
     println!(rt; "{tally}")
 }

@@ -1,1 +1,2 @@
+mod LineParts
 mod Spelled
