@@ -23,7 +23,7 @@ fn no_room(m: &Model, found: Option<usize>) -> bool
     found.is_none() && m.lists.len() <= m.list_count
 }
 
-// The list over the one found, or one list more.
+// The list over the one found, or one list more. Field by field: a row put whole would be C's `memmove`, which a host need not have.
 fn put_list(m: &mut Model, list: InputList, found: Option<usize>)
     requires within { (i : ℕ) → found ≡ Some i → i < 128 }
     requires room { no_room m.old found ≡ false }
@@ -31,10 +31,10 @@ fn put_list(m: &mut Model, list: InputList, found: Option<usize>)
 {
     match found {
         Some(row) => {
-            m.lists[row] = list;
+            m.lists[row] = InputList { ..list };
         }
         None => {
-            m.lists[m.list_count] = list;
+            m.lists[m.list_count] = InputList { ..list };
             m.list_count += 1;
         }
     }

@@ -19,7 +19,8 @@ fn take_list(m: &mut Model, i: usize)
         return;
     }
     let last = m.list_count - 1;
-    m.lists[i] = m.lists[last];
+    // field by field: a row moved whole within its table would be C's `memmove`, which a host need not have
+    m.lists[i] = InputList { ..m.lists[last] };
     m.list_count = last;
 }
 
