@@ -17,7 +17,7 @@ use validity::check;
 
 // The order holds positions of the component table, as many as the count says.
 // inputs[x][p] is the wire in place p of the component at x: to a component, or Past where there is no such place. Of x outside the order nothing is said.
-// Kept: an array and a count, since memory is fixed; not `NodeList<64>`, which is not `Copy` and carries marks that nothing reads here.
+// Kept: an array and a count, since memory is fixed; not `NodeList<64>`, which carries marks that nothing reads here.
 #[derive(Clone, Copy)]
 pub struct Graph {
     pub count: usize,

@@ -1,5 +1,5 @@
 -- Nodes, as the code numbers them, and their wires: what laying promises of these alone. Definitions only.
-use Rattle.std.specs.Prelude.{ℕ, ◌≤◌, ◌<◌, ◌≡◌, ◌↔◌, ◌⊎◌, Bool, true, false, cond, Option, Some, None, length, get_or, take, ltb}
+use Rattle.std.specs.Prelude.{ℕ, ◌-◌, ◌≤◌, ◌<◌, ◌≡◌, ◌↔◌, ◌⊎◌, Bool, true, false, cond, Option, Some, None, length, get_or, set, take, replicate, ltb}
 use mathlib.Core.List.{List, [], ◌∷◌, ◌++◌, Memᴰ}
 use Rattle.nodes.specs.declared.Wire.{Wire}
 use Rattle.nodes.specs.declared.Wire.TheVariants.{To, Absent, Gap, Past}
@@ -90,12 +90,27 @@ pub record MarksBelow (n : ℕ) (xs : List ℕ) (m : List Bool) : Type 0 where
 abbrev pub Marks : List ℕ → List Bool → Type 0
 Marks xs m = MarksBelow 192 xs m
 
--- the first k entries of `at` are distinct nodes below n, and m marks them
+-- m, and then a mark for each of xs
+unfoldable pub marked_with : List Bool → List ℕ → List Bool
+marked_with m [] = m
+marked_with m (x ∷ xs) = marked_with (set m x true) xs
+
+-- the array that xs lies in, and its marks: nothing else was ever put there
+abbrev pub array_of : ℕ → List ℕ → List ℕ
+array_of n xs = xs ++ replicate (n - length xs) 0
+
+abbrev pub marks_of : ℕ → List ℕ → List Bool
+marks_of n xs = marked_with (replicate n false) xs
+
+-- the first k entries of `at` are distinct nodes below n, and m marks them; and they give back all three
 pub record Listed (n : ℕ) (at : List ℕ) (k : ℕ) (m : List Bool) : Type 0 where
   pub at_length : length at ≡ n
   pub k_le : k ≤ n
   pub nodes : AreDistinct n (take k at)
   pub marked : MarksBelow n (take k at) m
+  pub count_back : length (take k at) ≡ k
+  pub array_back : array_of n (take k at) ≡ at
+  pub marks_back : marks_of n (take k at) ≡ m
 
 -- xs after x was pushed: it has joined at the end, if it is below n and was not there
 pub data Pushed (n : ℕ) (xs : List ℕ) (x : ℕ) : List ℕ → Type 0 where

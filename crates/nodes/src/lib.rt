@@ -151,7 +151,7 @@ fn is_whole(w: &Wires, i: usize) -> bool
 }
 
 // The reach of a node; an order of it, or that there is none; and whether all of it are components whose places are filled: then neither 12 nor 13 can be the refusal.
-#[derive(Clone, Drop)]
+#[derive(Clone, Copy)]
 pub struct LaidOut {
     pub reach: NodeList<192>,
     pub order: Option<NodeList<192>>,

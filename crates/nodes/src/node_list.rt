@@ -6,8 +6,7 @@ use std::marker::Model;
 
 // Nodes below N, in the order in which they joined, and a mark for each that is among them.
 // Kept: memory is fixed, so the nodes stand in an array with their count beside it.
-// Kept: not `Copy`. Of a type with a view it asks the law `inverse (view l) ≡ l`, which is false here: the nodes do not tell what stands in the array past the count.
-#[derive(Clone, Drop)]
+#[derive(Clone, Copy)]
 pub struct NodeList<const N: usize> {
     at: [usize; N],
     count: usize,
@@ -16,14 +15,22 @@ pub struct NodeList<const N: usize> {
 
 // Clauses see the nodes.
 impl<const N: usize> Model for NodeList<N> {
-    ghost use Rattle.std.specs.Prelude.{ℕ, List, take};
-    ghost use Rattle.nodes.specs.Nodes.{Listed};
+    ghost use Rattle.std.specs.Prelude.{ℕ, List, take, length};
+    ghost use Rattle.nodes.specs.Nodes.{Listed, array_of, marks_of};
 
     ghost Value = { List ℕ };
 
     ghost view = { λ l. take l.count l.at };
 
     ghost invariant = { λ l. Listed N l.at l.count l.marks };
+
+    ghost inverse = { λ xs. record { at = array_of N xs; count = length xs; marks = marks_of N xs } };
+
+    ghost inverse_ok = { λ l h i. record {
+      at = h.array_back i;
+      count = h.count_back i;
+      marks = h.marks_back i;
+    } };
 }
 
 impl<const N: usize> NodeList<N> {

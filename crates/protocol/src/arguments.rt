@@ -6,7 +6,7 @@ use spelling::text::Text;
 
 // The inputs of a new operation: how many there are, and the tags of the first three, empty where there are fewer.
 // Kept: memory is fixed, so the tags stand in an array with their count beside it, and a count past three is legal input.
-#[derive(Drop)]
+#[derive(Clone, Copy)]
 pub struct Inputs {
     pub count: usize,
     pub tags: [Text; 3],
@@ -23,10 +23,10 @@ pub enum Operator {
 
 impl Inputs {
     // A count and so many tags. Tags that there is no room for are counted and not kept.
-    // Kept: record's `read_rows` reads a count and so many rows too, but asks for `Copy`, which a `Text` is not; shared, it and its trait would be public in spelling, for this one loop.
+    // Kept: record's `read_rows` reads a count and so many rows too; shared, it and its trait would be public in spelling, for this one loop.
     fn read(words: &mut Words) -> Option<Inputs> {
         let count = words.decimal()?;
-        let mut tags = [Text::new(), Text::new(), Text::new()];
+        let mut tags = [Text::new(); 3];
         for i in 0..count {
             let tag = words.text()?;
             if let Some(place) = tags.get_mut(i) {

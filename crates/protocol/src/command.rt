@@ -12,7 +12,7 @@ use spelling::text::Text;
 
 // The edits of a model.
 // Kept: edit_rows' `Change` has the same nine cases over lent bytes. One generic enum would take the type of a text and that of the inputs, and protocol would rest on edit_rows for it.
-#[derive(Drop)]
+#[derive(Clone, Copy)]
 pub enum Change {
     AddConstant {
         tag: Text,
@@ -113,7 +113,7 @@ impl Change {
 }
 
 // What is asked of a model and changes none.
-#[derive(Drop)]
+#[derive(Clone, Copy)]
 pub enum Question {
     Compile { target: Text },
     EvaluateAt { target: Text, at: Vec3 },
@@ -122,7 +122,7 @@ pub enum Question {
 }
 
 // The record of `load` is read on its own, from the words behind the command's name.
-#[derive(Drop)]
+#[derive(Clone, Copy)]
 pub enum Command<'a> {
     New,
     Load(Words<'a>),
