@@ -31,6 +31,9 @@ fn is_ready(wires: &[[Wire; 3]; 64], done: &[bool; 64], n: usize, x: usize) -> b
 pub fn is_clear(wires: &[[Wire; 3]; 64], n: usize, target: usize, from: usize) -> bool
     ensures { result ≡ true → Clear wires.now n target from }
 {
+    if 64 < n {
+        return false;
+    }
     let line = line_of(wires, from);
     let mut done = [false; 64];
     for x in line.as_slice() {
