@@ -1,2 +1,3 @@
--- `Named` is what the proof of `read_parameter` cites.
+-- `Named` is what the proof of `read_parameter` cites. `Arms`: what the kinds with no parameter answer.
 mod Named
+pub mod Arms

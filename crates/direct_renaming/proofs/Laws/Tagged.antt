@@ -20,7 +20,8 @@ use Rattle.model_bytes.specs.Calls.{Spares}
 use Rattle.model_bytes.proofs.Laws.Reading.{entry_is, list_by}
 use Rattle.standing.proofs.Laws.Rows.{built_get_d}
 use Rattle.direct_rows.proofs.Laws.Parts.{Whole, entry_parts, list_parts}
-use Rattle.direct_rows.proofs.Laws.Written.{kept-within, agree_above, spares_then, entry-written, entry-spares, list_written, list-spares}
+use Rattle.direct_rows.proofs.Laws.Found.{lists_length}
+use Rattle.direct_rows.proofs.Laws.Written.{kept-within, agree_above, entry-written, entry-spares, list_written}
 
 module _ {s v : List ℕ} {m : Model} (g : Whole s m) (u : Tag) where
   -- ---- a component
@@ -55,5 +56,13 @@ module _ {s v : List ℕ} {m : Model} (g : Whole s m) (u : Tag) where
     pub list_tagged : Whole v (record { components = m.components; lists = set m.lists j (u, (get_or m.lists j d).1); default = m.default })
     list_tagged = list_written g j (u, (get_or m.lists j d).1) h within_list list
 
+    -- rows past any count of components, too, are as they were
+    pub list-spares : {r : List ℕ} {n : ℕ} → Spares n (length m.lists) r s → Spares n (length (set m.lists j (u, (get_or m.lists j d).1))) r v
+    list-spares f = record {
+      size = w.kept.size ∙ f.size;
+      components = λ x a b. w.kept.below x (omega arith) ∙ f.components x a b;
+      lists = λ x a. w.kept.above x (omega (arith, length-set m.lists j (u, (get_or m.lists j d).1), lists_length g)) ∙ f.lists x (omega (arith, length-set m.lists j (u, (get_or m.lists j d).1)));
+    }
+
     pub list_kept : {r : List ℕ} → Spares (length m.components) (length m.lists) r s → Spares (length m.components) (length (set m.lists j (u, (get_or m.lists j d).1))) r v
-    list_kept f = spares_then f (list-spares g j (u, (get_or m.lists j d).1) h within_list) (omega arith) (omega (arith, length-set m.lists j (u, (get_or m.lists j d).1)))
+    list_kept f = list-spares f

@@ -140,6 +140,15 @@ module _ (m : Record) where
         go (list_at l n e q) = missing a n
         go (nowhere n e q) = missing a n
 
+    -- the node of any tag is one of the 192, or 192
+    pub node-within : (a : Tag) → node_of m a ≤ 192
+    node-within a = go (seat a)
+      where
+        go : Seat a → node_of m a ≤ 192
+        go (component_at i e q) = omega (arith, q, (entry_row a i e).below, s.few)
+        go (list_at l n e q) = omega (arith, q, (list_row a l e).below, s.few_lists)
+        go (nowhere n e q) = omega (arith, q)
+
     -- a tag that has a list has a node
     pub listed-node : (a : Tag) (l : ℕ) → position a 0 (lists_of m) ≡ Some l → node_of m a < 192
     listed-node a l e = go (seat a)

@@ -4,10 +4,10 @@ use mathlib.Core.Logic.{◌≢◌}
 use mathlib.Core.Bool.{true, false}
 use mathlib.Core.List.{List}
 use mathlib.Core.Option.{none, some}
-use Prim.Native.Nat.{ℕ, zero, suc, ◌≤◌}
+use Prim.Native.Nat.{ℕ, zero, suc, ◌<◌, ◌≤◌}
 use lib.Dec.{eqb}
 use lib.ListN.{take, length, length-map}
-use borrow.Author.Tests.{le-leb}
+use borrow.Author.Tests.{le-leb, lt-leb}
 use Rattle.std.specs.Prelude.{Bool, Option, Some, None, MatchOption}
 use Rattle.tag.specs.Tags.{Tag}
 use Rattle.tag.specs.View.{bytes_of, tag_fits}
@@ -28,6 +28,11 @@ counted_none (suc n) h = refl
 counted_some : (n : ℕ) (l : List Place) → n ≢ 0 → counted n (some l) ≡ eqb (length l) n
 counted_some zero l h = absurd (h refl)
 counted_some (suc n) l h = refl
+
+-- a tag of more than 32 bytes is none
+pub entry-long : (ls : Table (List Place)) (e : ComponentEntry) → 32 < e.tag.len → entry_sound ls e ≡ false
+unfolding tag_fits
+entry-long ls e h = rw (lt-leb e.tag.len 32 h)
 
 module _ (ls : Table (List Place)) (e : ComponentEntry) (short : e.tag.len ≤ 32) (n : ℕ) (takes : n ≡ input_count e.component) where
   short' : tag_fits e.tag ≡ true

@@ -1,0 +1,2 @@
+-- `Arms`: what several kinds at once answer.
+pub mod Arms
