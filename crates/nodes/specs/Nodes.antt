@@ -102,12 +102,16 @@ array_of n xs = xs ++ replicate (n - length xs) 0
 abbrev pub marks_of : ℕ → List ℕ → List Bool
 marks_of n xs = marked_with (replicate n false) xs
 
--- the first k entries of `at` are distinct nodes below n, and m marks them; and they give back all three
+-- the first k entries of `at` are distinct nodes below n, and m marks them
 pub record Listed (n : ℕ) (at : List ℕ) (k : ℕ) (m : List Bool) : Type 0 where
   pub at_length : length at ≡ n
   pub k_le : k ≤ n
   pub nodes : AreDistinct n (take k at)
   pub marked : MarksBelow n (take k at) m
+
+-- and these entries give back all three
+pub record GivesBack (n : ℕ) (at : List ℕ) (k : ℕ) (m : List Bool) : Type 0 where
+  pub listed : Listed n at k m
   pub count_back : length (take k at) ≡ k
   pub array_back : array_of n (take k at) ≡ at
   pub marks_back : marks_of n (take k at) ≡ m

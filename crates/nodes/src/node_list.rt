@@ -16,13 +16,13 @@ pub struct NodeList<const N: usize> {
 // Clauses see the nodes.
 impl<const N: usize> Model for NodeList<N> {
     ghost use Rattle.std.specs.Prelude.{ℕ, List, take, length};
-    ghost use Rattle.nodes.specs.Nodes.{Listed, array_of, marks_of};
+    ghost use Rattle.nodes.specs.Nodes.{GivesBack, array_of, marks_of};
 
     ghost Value = { List ℕ };
 
     ghost view = { λ l. take l.count l.at };
 
-    ghost invariant = { λ l. Listed N l.at l.count l.marks };
+    ghost invariant = { λ l. GivesBack N l.at l.count l.marks };
 
     ghost inverse = { λ xs. record { at = array_of N xs; count = length xs; marks = marks_of N xs } };
 

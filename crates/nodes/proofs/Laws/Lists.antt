@@ -11,7 +11,7 @@ use mathlib.Core.List.{List, [], ◌∷◌, ◌++◌}
 use lib.ListN.{length, get_or, take, drop, set, replicate, get_or-replicate, length-replicate, length-append, length-set}
 use lib.Seq.{length-take-le, take-suc-set, get_or-set_same, get_or-set_other, drop-append_seam}
 use Rattle.std.proofs.lemmas.List.{drop-replicate, drop-drop, drop-set-lt, take-append-drop}
-use Rattle.nodes.specs.Nodes.{◌∈◌, Laid, AreDistinct, Listed, Pushed, stayed, joined, marked_with, marks_of, array_of}
+use Rattle.nodes.specs.Nodes.{◌∈◌, Laid, AreDistinct, Listed, GivesBack, Pushed, stayed, joined, marked_with, marks_of, array_of}
 use Rattle.nodes.proofs.Laws.Order.{laid_more, laid-length, no_cut}
 use Rattle.nodes.proofs.Laws.Wires.{up_to, length_up_to, mem_up_to, member_at}
 
@@ -55,14 +55,7 @@ marks-more m xs x h a g (no ne) = (
   (λ k. get_or-set_other m x a true false ne ∙ ⊎_elim (λ j. g.1 j) (λ j. absurd (ne (Memᴰ.eq_of_singleton j))) (Memᴰ.append_cases xs k)),
 )
 
--- the marks of one more
-marked_with_more : (m : List Bool) (xs : List ℕ) (x : ℕ) → marked_with m (xs ++ (x ∷ [])) ≡ set (marked_with m xs) x true
-unfolding marked_with
-marked_with_more m [] x = refl
-marked_with_more m (y ∷ xs) x = marked_with_more (set m y true) xs x
-
 pub listed_none : (n : ℕ) → Listed n (replicate n 0) 0 (replicate n false)
-unfolding marked_with
 listed_none n = record {
   at_length = length-replicate {A = ℕ} n 0;
   k_le = omega arith;
@@ -71,9 +64,6 @@ listed_none n = record {
     m_length = length-replicate {A = Bool} n false;
     marks = λ a h. ((λ one. absurd (false≢true (sym (get_or-replicate {A = Bool} n a false false h) ∙ one))), (λ m. absurd (Memᴰ.not-nil m)));
   };
-  count_back = length-take-le {A = ℕ} 0 (replicate n 0) (omega arith);
-  array_back = ap (λ (z : ℕ). replicate {A = ℕ} z 0) (omega arith);
-  marks_back = refl;
 }
 
 module _ {n : ℕ} {at : List ℕ} {k : ℕ} {m : List Bool} (g : Listed n at k m) (x : ℕ) (h : x < n) (new : ¬ (x ∈ take k at)) where
@@ -82,16 +72,6 @@ module _ {n : ℕ} {at : List ℕ} {k : ℕ} {m : List Bool} (g : Listed n at k 
 
   pub grown : take (k + 1) (set at k x) ≡ take k at ++ (x ∷ [])
   grown = rw add-one (take-suc-set at k x (omega (arith, listed_room, g.at_length)))
-
-  -- zeros stand behind the nodes, also where one more has joined
-  zeros : drop k at ≡ replicate (n - k) 0
-  zeros = ap (drop k) (sym g.array_back) ∙ ap (λ (z : ℕ). drop z (array_of n (take k at))) (sym g.count_back) ∙ drop-append_seam (take k at) _ ∙ ap (λ (z : ℕ). replicate (n - z) 0) g.count_back
-
-  zeros_more : drop (k + 1) (set at k x) ≡ replicate (n - (k + 1)) 0
-  zeros_more = drop-set-lt (k + 1) at k x (omega arith) ∙ sym (drop-drop 1 k at) ∙ ap (drop 1) zeros ∙ drop-replicate 1 (n - k) 0 ∙ ap (λ (z : ℕ). replicate z 0) (omega arith)
-
-  count_more : length (take (k + 1) (set at k x)) ≡ k + 1
-  count_more = length-take-le (k + 1) (set at k x) (omega (arith, listed_room, length-set at k x, g.at_length))
 
   pub listed_more : Listed n (set at k x) (k + 1) (set m x true)
   listed_more = record {
@@ -102,7 +82,42 @@ module _ {n : ℕ} {at : List ℕ} {k : ℕ} {m : List Bool} (g : Listed n at k 
       m_length = length-set m x true ∙ g.marked.m_length;
       marks = λ a ha. marks-more m (take k at) x (omega (arith, g.marked.m_length, h)) a (g.marked.marks a ha) (ℕ_discrete a x);
     });
+  }
+
+-- the marks that one more gives back
+marked_with_more : (m : List Bool) (xs : List ℕ) (x : ℕ) → marked_with m (xs ++ (x ∷ [])) ≡ set (marked_with m xs) x true
+unfolding marked_with
+marked_with_more m [] x = refl
+marked_with_more m (y ∷ xs) x = marked_with_more (set m y true) xs x
+
+-- none, and one more, where the nodes give back what they lie in
+pub gives_back_none : (n : ℕ) → GivesBack n (replicate n 0) 0 (replicate n false)
+unfolding marked_with
+gives_back_none n = record {
+  listed = listed_none n;
+  count_back = length-take-le {A = ℕ} 0 (replicate n 0) (omega arith);
+  array_back = ap (λ (z : ℕ). replicate {A = ℕ} z 0) (omega arith);
+  marks_back = refl;
+}
+
+module _ {n : ℕ} {at : List ℕ} {k : ℕ} {m : List Bool} (g : GivesBack n at k m) (x : ℕ) (h : x < n) (new : ¬ (x ∈ take k at)) where
+  room : k < n
+  room = listed_room g.listed x h new
+
+  -- zeros stand behind the nodes, also where one more has joined
+  zeros : drop k at ≡ replicate (n - k) 0
+  zeros = ap (drop k) (sym g.array_back) ∙ ap (λ (z : ℕ). drop z (array_of n (take k at))) (sym g.count_back) ∙ drop-append_seam (take k at) _ ∙ ap (λ (z : ℕ). replicate (n - z) 0) g.count_back
+
+  zeros_more : drop (k + 1) (set at k x) ≡ replicate (n - (k + 1)) 0
+  zeros_more = drop-set-lt (k + 1) at k x (omega arith) ∙ sym (drop-drop 1 k at) ∙ ap (drop 1) zeros ∙ drop-replicate 1 (n - k) 0 ∙ ap (λ (z : ℕ). replicate z 0) (omega arith)
+
+  count_more : length (take (k + 1) (set at k x)) ≡ k + 1
+  count_more = length-take-le (k + 1) (set at k x) (omega (arith, room, length-set at k x, g.listed.at_length))
+
+  pub gives_back_more : GivesBack n (set at k x) (k + 1) (set m x true)
+  gives_back_more = record {
+    listed = listed_more g.listed x h new;
     count_back = count_more;
     array_back = ap (λ (z : List ℕ). take (k + 1) (set at k x) ++ z) (ap (λ (z : ℕ). replicate (n - z) 0) count_more ∙ sym zeros_more) ∙ take-append-drop (k + 1) (set at k x);
-    marks_back = ap (marks_of n) grown ∙ marked_with_more (replicate n false) (take k at) x ∙ ap (λ (z : List Bool). set z x true) g.marks_back;
+    marks_back = ap (marks_of n) (grown g.listed x h new) ∙ marked_with_more (replicate n false) (take k at) x ∙ ap (λ (z : List Bool). set z x true) g.marks_back;
   }
